@@ -1,0 +1,10 @@
+pub mod Table
+pub mod Outcomes
+pub mod Digits
+pub mod LastByte
+pub mod Grouping
+pub mod Packing
+pub mod Parts
+pub mod Meaning
+pub mod Frames
+pub mod Examples

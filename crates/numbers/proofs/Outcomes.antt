@@ -1,0 +1,83 @@
+-- Laws of outcomes that follow a definition line by line: what a test, a refusal and a sequence of readings keep.
+-- Assumes nothing.
+use Prim.Native.Nat.{ℕ, _≤_, _<_}
+use native.Mathlib.Omega.{arith}
+use mathlib.Core.Path.{_≡_, refl, subst}
+use mathlib.Core.Bool.{Bool, true, false, true≢false}
+use mathlib.Core.Logic.{_⊎_, inl, inr}
+use mathlib.Core.List.{List}
+use lib.ListN.{length}
+use lib.Dec.{ltb}
+use borrow.Author.Tests.{le-ltb, ltb-true, ltb-false}
+use Rattle.numbers.specs.Outcome.{Outcome, gives, refuses, pick, refuseIf, andThen, within, outsideOf}
+
+-- a property of a choice: of each case under its test
+pub by-test : {A : Type 0} (P : A → Type 0) (t : Bool) {x y : A} → (t ≡ true → P x) → (t ≡ false → P y) → P (pick t x y)
+by-test P true h k = h refl
+by-test P false h k = k refl
+
+-- a property of an outcome with a test: of the refusal and of what comes after it
+pub by-refusal : {A : Type 0} (P : Outcome A → Type 0) (t : Bool) (n p : ℕ) {o : Outcome A} → (t ≡ true → P (refuses n p)) → (t ≡ false → P o) → P (refuseIf t n p o)
+by-refusal P true n p h k = h refl
+by-refusal P false n p h k = k refl
+
+-- two outcomes with one test, where what comes after it is the same
+pub refuse-same : {A : Type 0} (t : Bool) (n p : ℕ) {o o' : Outcome A} → (t ≡ false → o ≡ o') → refuseIf t n p o ≡ refuseIf t n p o'
+refuse-same true n p h = refl
+refuse-same false n p h = h refl
+
+-- two choices by one test
+pub pick-same : {A : Type 0} (t : Bool) {x x' y y' : A} → (t ≡ true → x ≡ x') → (t ≡ false → y ≡ y') → pick t x y ≡ pick t x' y'
+pick-same true h k = h refl
+pick-same false h k = k refl
+
+-- a test before a reading comes before what is made of it
+pub refuse-first : {A B : Type 0} (t : Bool) (n p : ℕ) (o : Outcome A) (f : A → Outcome B) → andThen (refuseIf t n p o) f ≡ refuseIf t n p (andThen o f)
+refuse-first true n p o f = refl
+refuse-first false n p o f = refl
+
+-- what the test for 50 says
+pub inside : (s : List ℕ) (at end : ℕ) → at ≤ end → end ≤ length s → outsideOf s at end ≡ false
+unfolding outsideOf
+inside s at end h k = rw (le-ltb end at h, le-ltb (length s) end k)
+
+pub inside-order : (s : List ℕ) (at end : ℕ) → outsideOf s at end ≡ false → at ≤ end
+unfolding outsideOf
+inside-order s at end = by-test (λ b. b ≡ false → at ≤ end) (ltb end at) (λ _ e. absurd (true≢false e)) (λ h _. ltb-false end at h)
+
+pub inside-end : (s : List ℕ) (at end : ℕ) → outsideOf s at end ≡ false → end ≤ length s
+unfolding outsideOf
+inside-end s at end = by-test (λ b. b ≡ false → end ≤ length s) (ltb end at) (λ _ e. absurd (true≢false e)) (λ _ e. ltb-false (length s) end e)
+
+pub outside-cases : (s : List ℕ) (at end : ℕ) → outsideOf s at end ≡ true → (end < at) ⊎ (length s < end)
+unfolding outsideOf
+outside-cases s at end =
+    by-test (λ b. b ≡ true → (end < at) ⊎ (length s < end)) (ltb end at) (λ h _. inl (ltb-true end at h)) (λ _ e. inr (ltb-true (length s) end e))
+
+-- in a part of the slice a reading is not refused with 50
+pub within-part : {A : Type 0} (s : List ℕ) (at end : ℕ) {o : Outcome A} → at ≤ end → end ≤ length s → within s at end o ≡ o
+within-part s at end h k = rw (inside s at end h k)
+
+-- P holds of what is given; of a refusal nothing is said
+pub data Each {A : Type 0} (P : A → Type 0) : Outcome A → Type 0 where
+  given : {a : A} → P a → Each P (gives a)
+  refused : {n p : ℕ} → Each P (refuses n p)
+
+pub each-refuse : {A : Type 0} {P : A → Type 0} (t : Bool) (n p : ℕ) {o : Outcome A} → (t ≡ false → Each P o) → Each P (refuseIf t n p o)
+each-refuse true n p h = refused
+each-refuse false n p h = h refl
+
+pub each-pick : {A : Type 0} {P : A → Type 0} (t : Bool) {x y : Outcome A} → (t ≡ true → Each P x) → (t ≡ false → Each P y) → Each P (pick t x y)
+each-pick true h k = h refl
+each-pick false h k = k refl
+
+pub each-within : {A : Type 0} {P : A → Type 0} (s : List ℕ) (at end : ℕ) {o : Outcome A} → (at ≤ end → end ≤ length s → Each P o) → Each P (within s at end o)
+each-within s at end h = each-refuse (outsideOf s at end) 50 0 (λ e. h (inside-order s at end e) (inside-end s at end e))
+
+pub each-then : {A B : Type 0} {P : A → Type 0} {Q : B → Type 0} {o : Outcome A} {f : A → Outcome B} → Each P o → ((a : A) → P a → Each Q (f a)) → Each Q (andThen o f)
+each-then (given {a} p) h = h a p
+each-then refused h = refused
+
+pub each-of : {A : Type 0} {P : A → Type 0} {o : Outcome A} {a : A} → Each P o → o ≡ gives a → P a
+each-of {A} {P} {o} {a} (given {a = b} p) e = let q : b ≡ a = cc in subst P q p
+each-of refused e = absurd (let z : _≡_ {A = ℕ} 0 1 = cc in omega arith)

@@ -1,0 +1,8 @@
+// A VarUInt as it was read.
+use crate::refusal::Refusal;
+
+pub enum VarUInt {
+    // What it is worth, and where it ends.
+    Value { value: usize, next: usize },
+    Refused(Refusal),
+}
