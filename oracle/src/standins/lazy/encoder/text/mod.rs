@@ -1,0 +1,3 @@
+// Stands for `lazy/encoder/text`: names the module. It decodes nothing.
+
+pub mod v1_0;
