@@ -14,7 +14,7 @@ use Rattle.numbers.specs.Format.{VarBytes, last, more, ofDigits, lowSeve
 use Rattle.numbers.specs.Outcome.{Outcome, gives, refuses, refuseIf, pick, part, outsideOf}
 use Rattle.numbers.specs.Answers.{Unsigned, Signed, Fixed, unsigned, signed, lastByte, varNumber, varUInt, varInt, int}
 use Rattle.numbers.specs.Meaning.{NumberAt, NumberTold, reads, outside, cut-short, too-long, VarUIntTold, VarIntTold, VarUIntReads, VarIntReads, VarUIntSmall, VarIntSmall, IntTold, IntsTold, IntsRead}
-use Rattle.numbers.proofs.Outcomes.{by-test, by-refusal, within-part, inside-order, inside-end, outside-cases, Each, given, each-within, each-pick, each-refuse, each-of}
+use Rattle.numbers.proofs.Outcomes.{by-test, by-refusal, within-part, inside-order, inside-end, outside-cases, Each, given, each-within, each-pick, each-refuse, each-of, each-if}
 use Rattle.numbers.proofs.Parts.{part-cons, part-none, part-one, part-length, part-at}
 use Rattle.numbers.proofs.Digits.{digit-below, digits-below, lows-below}
 use Rattle.numbers.proofs.LastByte.{Found, found, last-is}
@@ -141,6 +141,9 @@ var-uint-at s at end e = read-at (var-uint-told s at end) e
 pub var-int-at : (s : List ℕ) (at end : ℕ) {i : Signed} → varInt s at end ≡ gives i → ReadAt (signed s at) s at end i
 var-int-at s at end e = read-at (var-int-told s at end) e
 
+pub var-uint-each : (s : List ℕ) (at end : ℕ) → Each (ReadAt (unsigned s at) s at end) (varUInt s at end)
+var-uint-each s at end = each-if (varUInt s at end) (λ u e. var-uint-at s at end e)
+
 -- nine groups of seven bits are below 2^63, and a sign and the rest below 2^62
 groups-small : (bs : List ℕ) → length bs ≤ 9 → varUIntOf bs < 2 ^ 63
 unfolding varUIntOf
@@ -172,6 +175,25 @@ var-int-small s at end i e =
     let n : NumberAt s at end (r .next) = r .number in
     let l : length (part s at (r .next)) ≤ 9 = omega (arith, part-length s at (r .next) (omega (arith, n .ends, n .within)), r .short) in
     rw (r .is) (signed-small (part s at (r .next)) l)
+
+-- where a VarUInt ends, and how large it is
+pub record Bounded (at end : ℕ) (u : Unsigned) : Type 0 where
+  pub begins : at < u .next
+  pub ends : u .next ≤ end
+  pub short : u .next ≤ at + 9
+  pub small : u .value < 2 ^ 63
+
+pub var-uint-bounded : (s : List ℕ) (at end : ℕ) → Each (Bounded at end) (varUInt s at end)
+var-uint-bounded s at end =
+    each-if (varUInt s at end) (λ u e.
+    let r : ReadAt (unsigned s at) s at end u = var-uint-at s at end e in
+    let n : u .next ≡ r .next = ap (λ (x : Unsigned). x .next) (r .is) in
+    record {
+      begins = omega (arith, r .number .begins);
+      ends = omega (arith, r .number .ends);
+      short = omega (arith, r .short);
+      small = var-uint-small s at end u e;
+    })
 
 int-told : (s : List ℕ) (at end size : ℕ) → Each (IntTold s at end size) (int s at end size)
 unfolding int intNegative intMagnitude ofDigits

@@ -2,7 +2,7 @@
 -- Assumes nothing.
 use Prim.Native.Nat.{ℕ, _≤_, _<_}
 use native.Mathlib.Omega.{arith}
-use mathlib.Core.Path.{_≡_, refl, subst}
+use mathlib.Core.Path.{_≡_, refl, _∙_, sym, ap, subst}
 use mathlib.Core.Bool.{Bool, true, false, true≢false}
 use mathlib.Core.Logic.{_⊎_, inl, inr}
 use mathlib.Core.List.{List}
@@ -15,6 +15,11 @@ use Rattle.numbers.specs.Outcome.{Outcome, gives, refuses, pick, refuseI
 pub by-test : {A : Type 0} (P : A → Type 0) (t : Bool) {x y : A} → (t ≡ true → P x) → (t ≡ false → P y) → P (pick t x y)
 by-test P true h k = h refl
 by-test P false h k = k refl
+
+-- by cases of a test
+pub by-case : {X : Type 0} (t : Bool) → (t ≡ true → X) → (t ≡ false → X) → X
+by-case true h k = h refl
+by-case false h k = k refl
 
 -- a property of an outcome with a test: of the refusal and of what comes after it
 pub by-refusal : {A : Type 0} (P : Outcome A → Type 0) (t : Bool) (n p : ℕ) {o : Outcome A} → (t ≡ true → P (refuses n p)) → (t ≡ false → P o) → P (refuseIf t n p o)
@@ -81,3 +86,27 @@ each-then refused h = refused
 pub each-of : {A : Type 0} {P : A → Type 0} {o : Outcome A} {a : A} → Each P o → o ≡ gives a → P a
 each-of {A} {P} {o} {a} (given {a = b} p) e = let q : b ≡ a = cc in subst P q p
 each-of refused e = absurd (let z : _≡_ {A = ℕ} 0 1 = cc in omega arith)
+
+pub each-map : {A : Type 0} {P Q : A → Type 0} {o : Outcome A} → Each P o → ((a : A) → P a → Q a) → Each Q o
+each-map (given {a} p) h = given (h a p)
+each-map refused h = refused
+
+pub each-both : {A : Type 0} {P Q : A → Type 0} {o : Outcome A} → Each P o → Each Q o → Each (λ a. P a × Q a) o
+each-both {o = gives a} p q = given (each-of p refl, each-of q refl)
+each-both {o = refuses n m} p q = refused
+
+pub each-if : {A : Type 0} {P : A → Type 0} (o : Outcome A) → ((a : A) → o ≡ gives a → P a) → Each P o
+each-if (gives a) h = given (h a refl)
+each-if (refuses n p) h = refused
+
+-- what is made of a callee's answer, where the answer is known to be u and to be read as o
+pub then-by : {A B U : Type 0} (read : U → Outcome A) {x u : U} {o : Outcome A} (f : A → Outcome B) → x ≡ u → read x ≡ o → andThen (read u) f ≡ andThen o f
+then-by read f p q = ap (λ v. andThen (read v) f) (sym p) ∙ ap (λ o. andThen o f) q
+
+then-each : {A B : Type 0} {P : A → Type 0} {o : Outcome A} {f g : A → Outcome B} → Each P o → ((a : A) → P a → f a ≡ g a) → andThen o f ≡ andThen o g
+then-each (given {a} p) h = h a p
+then-each refused h = refl
+
+-- two sequences of readings, where the first reading is the same and so is what is made of whatever it gives
+pub then-same : {A B : Type 0} {P : A → Type 0} {o o' : Outcome A} {f g : A → Outcome B} → Each P o → o ≡ o' → ((a : A) → P a → f a ≡ g a) → andThen o f ≡ andThen o' g
+then-same {g = g} e q h = then-each e h ∙ ap (λ x. andThen x g) q

@@ -1,7 +1,7 @@
 -- The scope paper's "Descriptor": type code, length code, and what a descriptor byte begins.
 -- Assumes nothing.
 use Prim.Native.Nat.{ℕ, _/_, _%_}
-use lib.Dec.{eqb}
+use lib.Dec.{ltb, eqb}
 use Rattle.numbers.specs.Outcome.{pick}
 use Rattle.numbers.specs.declared.type_descriptor.Kind.{Kind}
 use Rattle.numbers.specs.declared.type_descriptor.Kind.the-variants.{Value, Null, Pad, Marker, Wrapper, Reserved}
@@ -11,7 +11,7 @@ use Rattle.numbers.specs.declared.type_descriptor.TypeDescriptor.{TypeDe
 -- reserved.
 unfoldable pub kindOf : ℕ → ℕ → Kind
 kindOf typeCode lengthCode =
-    pick (eqb typeCode 15) Reserved
+    pick (ltb 14 typeCode) Reserved
     (pick (eqb typeCode 14) (pick (eqb lengthCode 0) Marker Wrapper)
     (pick (eqb lengthCode 15) Null (pick (eqb typeCode 0) Pad Value)))
 

@@ -6,6 +6,7 @@
 ghost use mathlib.Core.Path.{_≡_};
 ghost use lib.ListN.{length};
 
+mod frame_questions;
 mod number_questions;
 mod text;
 
@@ -45,7 +46,29 @@ fn answer(line: &[u8]) -> Line {
     if check::same(asked, b"descriptor") {
         return number_questions::descriptor(s);
     }
-    Line::new().word(b"no such question")
+    frame_questions::answer(asked, s, a, b, c)
+}
+
+// Whether a question is on steps, scalars or walks. The layers above answer those. They stand among the Rust's frames
+// because the Rust frames a whole value only within a step; here they are passed over, and count neither as agreeing nor
+// as differing.
+fn for_later(asked: &[u8]) -> bool {
+    if check::same(asked, b"sequence") {
+        return true;
+    }
+    if check::same(asked, b"stream") {
+        return true;
+    }
+    if check::same(asked, b"struct") {
+        return true;
+    }
+    if check::same(asked, b"scalar") {
+        return true;
+    }
+    if check::same(asked, b"stepin") {
+        return true;
+    }
+    check::same(asked, b"walk")
 }
 
 // Compares one line's answer with ours, and writes it where they differ.
@@ -54,6 +77,9 @@ fn compare(line: &[u8], tally: Tally) -> Tally {
         return tally;
     }
     if line[0] == b'#' {
+        return tally;
+    }
+    if for_later(text::word(line, 0)) {
         return tally;
     }
     let made = answer(line);

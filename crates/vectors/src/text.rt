@@ -145,24 +145,44 @@ fn glyph(digit: u8) -> u8 {
     }
 }
 
-// Whether an answer is the one expected. An expected `?` at the end stands for any word; a `!` after the answer is a mark
-// and no part of it.
-pub fn agrees(expected: &[u8], answer: &[u8]) -> bool {
+// An expected answer without the mark `!`, which is no part of it.
+fn unmarked(expected: &[u8]) -> &[u8] {
     let n = expected.len();
     if 2 <= n {
         if expected[n - 1] == b'!' {
-            return agrees_unmarked(part(expected, 0, n - 2), answer);
+            return part(expected, 0, n - 2);
         }
     }
-    agrees_unmarked(expected, answer)
+    expected
 }
 
-fn agrees_unmarked(expected: &[u8], answer: &[u8]) -> bool {
-    let n = expected.len();
-    if 1 <= n {
-        if expected[n - 1] == b'?' {
-            return check::same(part(expected, 0, n - 1), part(answer, 0, n - 1));
-        }
+// Whether a word is the one expected. A `?` stands for any word.
+fn same_word(expected: &[u8], word: &[u8]) -> bool {
+    if check::same(expected, b"?") {
+        return 0 < word.len();
     }
-    check::same(expected, answer)
+    check::same(expected, word)
+}
+
+// Whether an answer is the one expected, word for word.
+pub fn agrees(expected: &[u8], answer: &[u8]) -> bool {
+    agrees_words(unmarked(expected), answer)
+}
+
+fn agrees_words(wanted: &[u8], answer: &[u8]) -> bool {
+    let mut at = 0;
+    let mut from = 0;
+    while at < wanted.len() {
+        let end = find(wanted, at, b' ');
+        let stop = find(answer, from, b' ');
+        if !same_word(part(wanted, at, end), part(answer, from, stop)) {
+            return false;
+        }
+        if wanted.len() <= end {
+            return answer.len() <= stop;
+        }
+        at = end + 1;
+        from = after(stop);
+    }
+    false
 }

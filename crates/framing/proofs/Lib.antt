@@ -1,0 +1,5 @@
+pub mod Bounds
+pub mod Nibbles
+pub mod Told
+pub mod Accepts
+pub mod Looked

@@ -1,0 +1,79 @@
+-- `read_annotations_wrapper` meets its contract: 22 where no wrapper begins, then the wrapper.
+-- Assumes nothing.
+use borrow.Author.Needs.{needs}
+use borrow.Author.Tests.{not-true, not-false}
+use mathlib.Core.Path.{_≡_, _∙_, sym, ap}
+use Rattle.numbers.specs.Outcome.{gives, refuses, part}
+use Rattle.numbers.specs.declared.type_descriptor.TypeDescriptor.{TypeDescriptor}
+use Rattle.numbers.proofs.Outcomes.{then-by, each-of}
+use Rattle.framing.specs.Answers.{wrapperAt, wrapperOrNone, readWrapper}
+use Rattle.framing.specs.Read.{begunRead}
+use Rattle.framing.proofs.Bounds.{BegunAt, begun-each}
+use Rattle.framing.proofs.binary_buffer.read_annotations_wrapper.Statement.{statement}
+use Rattle.framing.proofs.binary_buffer.read_annotations_wrapper.Tie as tie
+
+
+-- the descriptor is one of the part
+told : (c : tie.After-begin) (d : TypeDescriptor) → begunRead (c .begin .result) ≡ gives d → let a = c .before .before .args in BegunAt (a .s .now) (a .at) (a .end) d
+told c d e = let a = c .before .before .args in each-of (begun-each (a .s .now) (a .at) (a .end)) (sym (c .begin .ensures) ∙ e)
+
+-- what the test says of the answer
+refused : (c : tie.Then1) → let a = c .before .before .before .before .before .before .before .args in wrapperOrNone (a .s .now) (a .at) (a .end) (c .before .before .before .descriptor .given .0 .0) ≡ refuses 22 (a .at)
+unfolding wrapperOrNone
+refused c = rw (sym (c .before .is-wrapper .ensures) ∙ not-true _ (c .if1 .taken))
+
+left : (c : tie.Else1) → let a = c .before .before .before .before .before .before .before .args in let d = c .before .before .before .descriptor .given .0 .0 in wrapperOrNone (a .s .now) (a .at) (a .end) d ≡ wrapperAt (a .s .now) (a .at) (a .end) d
+unfolding wrapperOrNone
+left c = rw (sym (c .before .is-wrapper .ensures) ∙ not-false _ (c .if1 .left))
+
+begin-requires : tie.Need-begin-requires
+begin-requires c κs = search needs
+
+enum-known-descriptor : tie.Need-enum-known-descriptor
+enum-known-descriptor c = search needs
+
+is-wrapper-requires : tie.Need-is-wrapper-requires
+is-wrapper-requires c κs = search needs
+
+returns : tie.Need-returns
+unfolding readWrapper
+returns c =
+    let d = c .before .before in
+    let q = d .before .before .before in
+    let a = q .before .before .args in
+    sym (refused c) ∙ then-by begunRead (wrapperOrNone (a .s .now) (a .at) (a .end)) (d .before .descriptor .given .1) (q .begin .ensures)
+
+read-wrapper-requires : tie.Need-read-wrapper-requires
+read-wrapper-requires c κs =
+    let t = told (c .before .before .before .before .before) _ (ap begunRead (c .before .before .before .descriptor .given .1)) in (t .before, t .inside)
+
+enum-known-refusal : tie.Need-enum-known-refusal
+enum-known-refusal c = search needs
+
+returns-2 : tie.Need-returns-2
+unfolding readWrapper
+returns-2 c =
+    let d = c .before .before .before in
+    let q = d .before .before .before in
+    let a = q .before .before .args in
+    c .read-wrapper .ensures ∙ sym (left (c .before)) ∙ then-by begunRead (wrapperOrNone (a .s .now) (a .at) (a .end)) (d .before .descriptor .given .1) (q .begin .ensures)
+
+returns-3 : tie.Need-returns-3
+unfolding readWrapper
+returns-3 c =
+    let q = c .before .before .before in
+    let a = q .before .before .args in
+    then-by begunRead (wrapperOrNone (a .s .now) (a .at) (a .end)) (c .before .refusal .given .1) (q .begin .ensures)
+
+pub read-annotations-wrapper-spec : {M : Type 1} → statement M
+read-annotations-wrapper-spec =
+    tie.close
+    (tie.spec
+    begin-requires
+    enum-known-descriptor
+    is-wrapper-requires
+    returns
+    read-wrapper-requires
+    enum-known-refusal
+    returns-2
+    returns-3)

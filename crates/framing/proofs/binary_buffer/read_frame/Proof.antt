@@ -1,0 +1,55 @@
+-- `read_frame` meets its contract: the descriptor is looked at, and then the pad or the value read.
+-- Assumes nothing.
+use borrow.Author.Needs.{needs}
+use mathlib.Core.Path.{_≡_, _∙_, sym, ap}
+use Rattle.numbers.specs.Outcome.{gives, part}
+use Rattle.numbers.specs.declared.type_descriptor.TypeDescriptor.{TypeDescriptor}
+use Rattle.numbers.proofs.Outcomes.{then-by, each-of}
+use Rattle.framing.specs.Answers.{frameAt, readFrame}
+use Rattle.framing.specs.Read.{begunRead}
+use Rattle.framing.proofs.Bounds.{BegunAt, begun-each}
+use Rattle.framing.proofs.binary_buffer.read_frame.Statement.{statement}
+use Rattle.framing.proofs.binary_buffer.read_frame.Tie as tie
+
+
+-- the descriptor is one of the part
+told : (c : tie.After-begin) (d : TypeDescriptor) → begunRead (c .begin .result) ≡ gives d → let a = c .before .before .args in BegunAt (a .s .now) (a .at) (a .end) d
+told c d e = let a = c .before .before .args in each-of (begun-each (a .s .now) (a .at) (a .end)) (sym (c .begin .ensures) ∙ e)
+
+begin-requires : tie.Need-begin-requires
+begin-requires c κs = search needs
+
+enum-known-descriptor : tie.Need-enum-known-descriptor
+enum-known-descriptor c = search needs
+
+read-frame-at-requires : tie.Need-read-frame-at-requires
+read-frame-at-requires c κs =
+    let t = told (c .before .before .before) _ (ap begunRead (c .before .descriptor .given .1)) in (t .before, t .inside)
+
+enum-known-refusal : tie.Need-enum-known-refusal
+enum-known-refusal c = search needs
+
+returns : tie.Need-returns
+unfolding readFrame
+returns c =
+    let q = c .before .before .before .before in
+    let a = q .before .before .args in
+    c .read-frame-at .ensures ∙ then-by begunRead (frameAt (a .s .now) (a .at) (a .end)) (c .before .before .descriptor .given .1) (q .begin .ensures)
+
+returns-2 : tie.Need-returns-2
+unfolding readFrame
+returns-2 c =
+    let q = c .before .before .before in
+    let a = q .before .before .args in
+    then-by begunRead (frameAt (a .s .now) (a .at) (a .end)) (c .before .refusal .given .1) (q .begin .ensures)
+
+pub read-frame-spec : {M : Type 1} → statement M
+read-frame-spec =
+    tie.close
+    (tie.spec
+    begin-requires
+    enum-known-descriptor
+    read-frame-at-requires
+    enum-known-refusal
+    returns
+    returns-2)

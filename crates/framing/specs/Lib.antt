@@ -1,0 +1,4 @@
+pub mod Answers
+pub mod Format
+pub mod Meaning
+pub mod Read

@@ -1,0 +1,33 @@
+-- What the framing's answers say of the bytes, in both directions: what is framed is a value or a pad of the Ion document with these places, and one that
+-- fits the part and the scope paper's limits is framed. The theorems are proved in proofs/Told.antt and proofs/Accepts.antt.
+-- Assumes nothing.
+use Prim.Native.Nat.{ℕ, _+_, _≤_}
+use mathlib.Core.Path.{_≡_}
+use mathlib.Core.List.{List}
+use Rattle.numbers.specs.Outcome.{gives}
+use Rattle.numbers.specs.Answers.{mostBytes}
+use Rattle.framing.specs.Answers.{Spans, Padding, Frame, padding, valued, mostAnnotations, readValue, readFrame, readPad}
+use Rattle.framing.specs.Format.{TypedValue, NopPadding, AnnotationWrapper, ValueBytes, plain, annotated}
+
+-- the limits: a length field of at most nine bytes, and at most 255 bytes of annotations
+abbrev pub Within : {s : List ℕ} {at end : ℕ} {v : Spans} → ValueBytes s at end v → Type 0
+Within {at = at} {v = v} (plain t) = v .body ≤ at + 1 + mostBytes
+Within {at = at} {v = v} (annotated w) =
+    (w .after ≤ at + 1 + mostBytes)
+    × (v .annotations ≤ w .after + mostBytes)
+    × (v .descriptor ≤ v .annotations + mostAnnotations)
+    × (v .body ≤ v .descriptor + 1 + mostBytes)
+
+-- what is framed is such bytes, within the limits
+abbrev pub ValuesTold : Type 0
+ValuesTold = (s : List ℕ) (at end : ℕ) (v : Spans) → readValue s at end ≡ gives v → (b : ValueBytes s at end v) × Within b
+
+abbrev pub PadsTold : Type 0
+PadsTold = (s : List ℕ) (at end : ℕ) (p : Padding) → readPad s at end ≡ gives p → NopPadding s at end p × (p .body ≤ at + 1 + mostBytes)
+
+-- such bytes within the limits are framed, and nothing else is answered
+abbrev pub ValuesRead : Type 0
+ValuesRead = (s : List ℕ) (at end : ℕ) (v : Spans) (b : ValueBytes s at end v) → Within b → (readValue s at end ≡ gives v) × (readFrame s at end ≡ gives (valued v))
+
+abbrev pub PadsRead : Type 0
+PadsRead = (s : List ℕ) (at end : ℕ) (p : Padding) → NopPadding s at end p → p .body ≤ at + 1 + mostBytes → (readPad s at end ≡ gives p) × (readFrame s at end ≡ gives (padding p))

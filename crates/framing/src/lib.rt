@@ -1,0 +1,4 @@
+// Framing of the Ion 1.0 binary encoding: which bytes are the value, the pad or the wrapper that stands at a position.
+pub mod annotations_iterator;
+pub mod binary_buffer;
+pub mod encoded_value;
