@@ -132,7 +132,7 @@ module _ (s t : List ℕ) (e : length s ≡ length t) where
       record {
         type = subst (λ (x : ℕ). ValueType (x / 16) (x % 16)) q (w .type);
         field = subst (λ (x : ℕ). ValueLength t (at + 1) end (v .body) (x / 16) (x % 16) (v .end - v .body)) q
-          (field-moves (at + 1) end (v .body) (λ i a b. same i (omega arith) b) (w .field));
+            (field-moves (at + 1) end (v .body) (λ i a b. same i (omega arith) b) (w .field));
         legal = subst (λ (x : ℕ). Legal (x / 16) (x % 16) (v .end - v .body)) q (w .legal);
         byte = w .byte ∙ q;
         start = w .start;
@@ -150,7 +150,7 @@ module _ (s t : List ℕ) (e : length s ≡ length t) where
       record {
         type = ap (λ (x : ℕ). x / 16) (sym q) ∙ n .type;
         field = subst (λ (x : ℕ). CodeLength t (at + 1) end (p .body) (x % 16) (p .end - p .body)) q
-          (code-moves (at + 1) end (p .body) (λ i a b. same i (omega arith) b) (n .field));
+            (code-moves (at + 1) end (p .body) (λ i a b. same i (omega arith) b) (n .field));
         low = n .low;
         order = n .order;
         fits = n .fits;
@@ -166,13 +166,13 @@ module _ (s t : List ℕ) (e : length s ≡ length t) where
   wrapper-moves at end v same w =
       let q : getD s at 0 ≡ getD t at 0 = same .wrapper at (omega arith) (omega (arith, w .low, w .count .begins)) in
       let p : part s (w .after) (v .annotations) ≡ part t (w .after) (v .annotations)
-          = part-same s t (w .after) (v .annotations) e (omega (arith, w .count .ends, w .count .within)) (λ i a b. same .wrapper i (omega (arith, w .low)) b) in
+      = part-same s t (w .after) (v .annotations) e (omega (arith, w .count .ends, w .count .within)) (λ i a b. same .wrapper i (omega (arith, w .low)) b) in
       record {
         combined = w .combined;
         after = w .after;
         type = ap (λ (x : ℕ). x / 16) (sym q) ∙ w .type;
         field = subst (λ (x : ℕ). CodeLength t (at + 1) end (w .after) (x % 16) (w .combined)) q
-          (code-moves (at + 1) end (w .after) (λ i a b. same .wrapper i (omega arith) (omega (arith, w .count .begins))) (w .field));
+            (code-moves (at + 1) end (w .after) (λ i a b. same .wrapper i (omega arith) (omega (arith, w .count .begins))) (w .field));
         low = w .low;
         count = number-moves (w .after) end (v .annotations) (λ i a b. same .wrapper i (omega (arith, w .low)) b) (w .count);
         size = w .size ∙ ap (λ (x : List ℕ). v .annotations + varUIntOf x) p;

@@ -124,9 +124,9 @@ value-length-told s at end d h k =
       legal = record {
         float = legal-float (d .«type_code») (d .«length_code») a;
         timestamp = legal-timestamp (d .«type_code») (d .«length_code») (l .size) b;
-        ordered = legal-ordered (d .«type_code») (d .«length_code») (l .size) c
+        ordered = legal-ordered (d .«type_code») (d .«length_code») (l .size) c;
       };
-      sized = f .1
+      sized = f .1;
     })))))
 
 -- the descriptor at a position
@@ -163,16 +163,17 @@ pad-told s at end h k p =
     each-then (each-both (code-told s (at + 1) end (codeAt s at) c) (length-each s (at + 1) end (codeAt s at) (omega arith))) (λ l t.
     each-refuse (ltb (end - l .body) (l .size)) 6 (l .body) (λ f.
     let e : l .size ≡ l .body + l .size - l .body = omega arith in
-    given
-    (record {
-      type = q .type-is;
-      field = subst (CodeLength s (at + 1) end (l .body) (codeAt s at)) e (t .0);
-      low = omega (arith, t .1 .low);
-      order = omega arith;
-      fits = omega (arith, t .1 .high, ltb-false (end - l .body) (l .size) f);
-      within = k;
-    },
-    t .1 .near)))
+    given (
+      record {
+        type = q .type-is;
+        field = subst (CodeLength s (at + 1) end (l .body) (codeAt s at)) e (t .0);
+        low = omega (arith, t .1 .low);
+        order = omega arith;
+        fits = omega (arith, t .1 .high, ltb-false (end - l .body) (l .size) f);
+        within = k;
+      },
+      t .1 .near,
+    )))
 
 -- what stands in a wrapper
 inner-told : (s : List ℕ) (at end : ℕ) → Each (TypedValue s at end) (andThen (begun s at end) (innerValue s at end))
@@ -246,26 +247,27 @@ annotated-told s at end h k =
     let e : v .end - v .descriptor ≡ w .expected = eqb-true _ _ (not-false _ n) in
     let d : v .descriptor ≡ w .value = i .descriptor in
     let after : t .after < w .annotations = t .count .begins in
-    given
-    (annotated
-    (record {
-      combined = t .combined;
-      after = t .after;
-      type = wrapper-kind (typeAt s at) (codeAt s at) k .type-is;
-      field = t .field;
-      low = t .low;
-      count = t .count;
-      size = d ∙ t .size;
-      some = omega (arith, t .some);
-      inner = v;
-      value = subst (λ (x : ℕ). TypedValue s x end v) (sym d) i;
-      all = omega (arith, t .left, t .some, i .low, i .order);
-      start = refl;
-      byte = refl;
-      body = refl;
-      ends = refl;
-    }),
-    (t .near, t .close, omega (arith, t .few), io .1 .near)))))
+    given (
+      annotated
+          (record {
+            combined = t .combined;
+            after = t .after;
+            type = wrapper-kind (typeAt s at) (codeAt s at) k .type-is;
+            field = t .field;
+            low = t .low;
+            count = t .count;
+            size = d ∙ t .size;
+            some = omega (arith, t .some);
+            inner = v;
+            value = subst (λ (x : ℕ). TypedValue s x end v) (sym d) i;
+            all = omega (arith, t .left, t .some, i .low, i .order);
+            start = refl;
+            byte = refl;
+            body = refl;
+            ends = refl;
+          }),
+      (t .near, t .close, omega (arith, t .few), io .1 .near),
+    ))))
 
 pub value-told : (s : List ℕ) (at end : ℕ) → at < end → end ≤ length s → Each (λ v. (b : ValueBytes s at end v) × Within b) (valueAt s at end (here s at))
 unfolding valueAt

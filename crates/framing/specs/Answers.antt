@@ -143,7 +143,7 @@ wrapperTests at end combined u =
     (record {
       annotations = u .next;
       value = u .next + u .value;
-      expected = combined .size - (u .next - combined .body + u .value)
+      expected = combined .size - (u .next - combined .body + u .value);
     }))))))
 
 -- then "the annotations' VarUInt"
@@ -170,7 +170,7 @@ wrapped at w v =
       annotations = w .annotations;
       descriptor = v .descriptor;
       body = v .body;
-      end = v .end
+      end = v .end;
     }))
 
 -- "1" where nothing follows the annotations, then the value

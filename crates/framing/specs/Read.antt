@@ -32,7 +32,7 @@ spansOf v =
       annotations = v .annotations;
       descriptor = v .descriptor;
       body = v .body;
-      end = v .end
+      end = v .end;
     }
 
 abbrev pub lengthRead : Length → Outcome Sized

@@ -2,9 +2,10 @@
 ghost use mathlib.Core.Path.{_≡_};
 ghost use Rattle.framing.specs.Answers.{readAnnotation};
 ghost use Rattle.framing.specs.Read.{annotationRead};
-
-use numbers::binary_buffer::{outside, read_var_uint};
-use numbers::refusal::{Refusal, OUTSIDE};
+use numbers::binary_buffer::outside;
+use numbers::binary_buffer::read_var_uint;
+use numbers::refusal::OUTSIDE;
+use numbers::refusal::Refusal;
 use numbers::var_uint::VarUInt;
 
 pub enum Annotation {

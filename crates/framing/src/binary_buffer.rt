@@ -7,15 +7,33 @@ ghost use lib.ListN.{length};
 ghost use Rattle.numbers.specs.Outcome.{andThen};
 ghost use Rattle.framing.specs.Answers.{begun, isPad, isWrapper, noValue, lengthAt, valueCode, badFloat, shortTimestamp, emptyOrdered, lengthTests, valueLength, fitting, plainValue, padAt, wrapperTests, wrapperAt, innerValue, wrapped, annotatedValue, valueAt, frameAt, readValue, readFrame, readValueLength, readPad, readWrapper};
 ghost use Rattle.framing.specs.Read.{begunRead, spansOf, lengthRead, padRead, wrapperRead, framedRead, frameRead};
-
-use crate::encoded_value::{AnnotationsWrapper, EncodedValue, Frame, Framed, Length, NopPad};
-use numbers::binary_buffer::{outside, read_var_uint};
-use numbers::refusal::{
-    Refusal, ANNOTATIONS_CUT, ANNOTATIONS_TOO_LONG, BAD_FLOAT_LENGTH, EMPTY_ORDERED_STRUCT, NOT_A_VALUE, NO_ANNOTATIONS,
-    NO_ROOM_FOR_VALUE, NO_VALUE_LEFT, OUTSIDE, PAD_CUT, PAD_IN_WRAPPER, TIMESTAMP_TOO_SHORT, TOO_MANY_ANNOTATIONS,
-    VALUE_CUT, WRAPPED_LENGTH_DIFFERS, WRAPPER_IN_WRAPPER,
-};
-use numbers::type_descriptor::{Kind, TypeDescriptor};
+use crate::encoded_value::AnnotationsWrapper;
+use crate::encoded_value::EncodedValue;
+use crate::encoded_value::Frame;
+use crate::encoded_value::Framed;
+use crate::encoded_value::Length;
+use crate::encoded_value::NopPad;
+use numbers::binary_buffer::outside;
+use numbers::binary_buffer::read_var_uint;
+use numbers::refusal::ANNOTATIONS_CUT;
+use numbers::refusal::ANNOTATIONS_TOO_LONG;
+use numbers::refusal::BAD_FLOAT_LENGTH;
+use numbers::refusal::EMPTY_ORDERED_STRUCT;
+use numbers::refusal::NO_ANNOTATIONS;
+use numbers::refusal::NO_ROOM_FOR_VALUE;
+use numbers::refusal::NO_VALUE_LEFT;
+use numbers::refusal::NOT_A_VALUE;
+use numbers::refusal::OUTSIDE;
+use numbers::refusal::PAD_CUT;
+use numbers::refusal::PAD_IN_WRAPPER;
+use numbers::refusal::Refusal;
+use numbers::refusal::TIMESTAMP_TOO_SHORT;
+use numbers::refusal::TOO_MANY_ANNOTATIONS;
+use numbers::refusal::VALUE_CUT;
+use numbers::refusal::WRAPPED_LENGTH_DIFFERS;
+use numbers::refusal::WRAPPER_IN_WRAPPER;
+use numbers::type_descriptor::Kind;
+use numbers::type_descriptor::TypeDescriptor;
 use numbers::var_uint::VarUInt;
 
 // The most bytes that a value's annotations may have.
@@ -93,10 +111,16 @@ fn read_length(s: &[u8], at: usize, end: usize, code: u8) -> Length
         return Length::Known { body: at, size: 0 };
     }
     if code != 14 {
-        return Length::Known { body: at, size: code as usize };
+        return Length::Known {
+            body: at,
+            size: code as usize,
+        };
     }
     match read_var_uint(s, at, end) {
-        VarUInt::Value { value, next } => Length::Known { body: next, size: value },
+        VarUInt::Value { value, next } => Length::Known {
+            body: next,
+            size: value,
+        },
         VarUInt::Refused(refusal) => Length::Refused(refusal),
     }
 }
@@ -192,7 +216,13 @@ fn value_length(s: &[u8], at: usize, end: usize, descriptor: TypeDescriptor) -> 
     let after = at + 1;
     let code = value_code(descriptor.type_code, descriptor.length_code);
     match read_length(s, after, end, code) {
-        Length::Known { body, size } => check_length(at, descriptor.type_code, descriptor.length_code, body, size),
+        Length::Known { body, size } => check_length(
+            at,
+            descriptor.type_code,
+            descriptor.length_code,
+            body,
+            size,
+        ),
         Length::Refused(refusal) => Length::Refused(refusal),
     }
 }
@@ -220,7 +250,12 @@ fn fit(at: usize, end: usize, byte: u8, body: usize, size: usize) -> Framed
 }
 
 // The value with this descriptor at `at`, without annotations.
-fn read_value_without_annotations(s: &[u8], at: usize, end: usize, descriptor: TypeDescriptor) -> Framed
+fn read_value_without_annotations(
+    s: &[u8],
+    at: usize,
+    end: usize,
+    descriptor: TypeDescriptor,
+) -> Framed
     requires { ⌜ (at < end) × (end ≤ length (now s)) ⌝ }
     ensures { λ r. ⌜ framedRead r ≡ plainValue (now (s .entry)) at end descriptor ⌝ }
 {
@@ -261,7 +296,14 @@ fn read_pad(s: &[u8], at: usize, end: usize, descriptor: TypeDescriptor) -> NopP
 
 // Tests the wrapper at `at`: its combined length is counted from `body` on, and its annotations' length, `size`, ends at
 // `annotations`.
-fn check_wrapper(at: usize, end: usize, body: usize, combined: usize, size: usize, annotations: usize) -> AnnotationsWrapper
+fn check_wrapper(
+    at: usize,
+    end: usize,
+    body: usize,
+    combined: usize,
+    size: usize,
+    annotations: usize,
+) -> AnnotationsWrapper
     requires { ⌜ (body ≤ annotations) × (annotations ≤ end) × (annotations ≤ body + 9) × (size < 2 ^ 63) ⌝ }
     ensures { λ r. ⌜ wrapperRead r ≡ wrapperTests at end (record { body = body; size = combined }) (record { value = size; next = annotations }) ⌝ }
 {
@@ -353,7 +395,13 @@ fn read_inner(s: &[u8], at: usize, end: usize) -> Framed
 }
 
 // The value of the wrapper at `at`, whose lengths say that it has `expected` bytes.
-fn check_wrapped(at: usize, annotations: usize, value: usize, expected: usize, inner: EncodedValue) -> Framed
+fn check_wrapped(
+    at: usize,
+    annotations: usize,
+    value: usize,
+    expected: usize,
+    inner: EncodedValue,
+) -> Framed
     requires { ⌜ inner .descriptor ≤ inner .end ⌝ }
     ensures { λ r. ⌜ framedRead r ≡ wrapped at (record { annotations = annotations; value = value; expected = expected }) (spansOf inner) ⌝ }
 {

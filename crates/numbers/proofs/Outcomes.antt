@@ -110,3 +110,12 @@ then-each refused h = refl
 -- two sequences of readings, where the first reading is the same and so is what is made of whatever it gives
 pub then-same : {A B : Type 0} {P : A → Type 0} {o o' : Outcome A} {f g : A → Outcome B} → Each P o → o ≡ o' → ((a : A) → P a → f a ≡ g a) → andThen o f ≡ andThen o' g
 then-same {g = g} e q h = then-each e h ∙ ap (λ x. andThen x g) q
+
+-- back from what is given: each test passed, and each reading gave
+pub refuse-gives : {A : Type 0} (t : Bool) (n p : ℕ) {o : Outcome A} {a : A} → refuseIf t n p o ≡ gives a → (t ≡ false) × (o ≡ gives a)
+refuse-gives true n p h = absurd (let z : _≡_ {A = ℕ} 0 1 = cc in omega arith)
+refuse-gives false n p h = (refl, h)
+
+pub then-gives : {A B : Type 0} (o : Outcome A) (f : A → Outcome B) {b : B} → andThen o f ≡ gives b → (a : A) × (o ≡ gives a) × (f a ≡ gives b)
+then-gives (gives a) f h = (a, refl, h)
+then-gives (refuses n p) f h = absurd (let z : _≡_ {A = ℕ} 0 1 = cc in omega arith)

@@ -73,7 +73,7 @@ fn frame(s: &[u8], at: usize, end: usize) -> Line {
 }
 
 // A line that another item can follow.
-fn joined(line: Line) -> Line {
+pub fn joined(line: Line) -> Line {
     if line.len == 0 { line } else { line.word(b";") }
 }
 
@@ -110,7 +110,7 @@ fn annotations(s: &[u8], at: usize, end: usize, count: usize) -> Line {
     line
 }
 
-// The answer to a question on frames.
+// The answer to a question on frames, and nothing where it is on something else.
 pub fn answer(asked: &[u8], s: &[u8], at: usize, end: usize, count: usize) -> Line {
     if check::same(asked, b"length") {
         return length(s, at, end);
@@ -130,5 +130,5 @@ pub fn answer(asked: &[u8], s: &[u8], at: usize, end: usize, count: usize) -> Li
     if check::same(asked, b"annotations") {
         return annotations(s, at, end, count);
     }
-    Line::new().word(b"no such question")
+    Line::new()
 }

@@ -8,6 +8,7 @@ ghost use lib.ListN.{length};
 
 mod frame_questions;
 mod number_questions;
+mod step_questions;
 mod text;
 
 use libc::STDOUT_FILENO;
@@ -46,22 +47,15 @@ fn answer(line: &[u8]) -> Line {
     if check::same(asked, b"descriptor") {
         return number_questions::descriptor(s);
     }
-    frame_questions::answer(asked, s, a, b, c)
+    let line = frame_questions::answer(asked, s, a, b, c);
+    if 0 < line.len {
+        return line;
+    }
+    step_questions::answer(asked, s, a, b, c)
 }
 
-// Whether a question is on steps, scalars or walks. The layers above answer those. They stand among the Rust's frames
-// because the Rust frames a whole value only within a step; here they are passed over, and count neither as agreeing nor
-// as differing.
+// Whether a question is on scalars or walks. They are passed over, and count neither as agreeing nor as differing.
 fn for_later(asked: &[u8]) -> bool {
-    if check::same(asked, b"sequence") {
-        return true;
-    }
-    if check::same(asked, b"stream") {
-        return true;
-    }
-    if check::same(asked, b"struct") {
-        return true;
-    }
     if check::same(asked, b"scalar") {
         return true;
     }
@@ -69,6 +63,15 @@ fn for_later(asked: &[u8]) -> bool {
         return true;
     }
     check::same(asked, b"walk")
+}
+
+// Our answer to compare with the one expected. The oracle says a refusal of the part itself once, whatever the count of
+// steps is; of ours the first item is compared with it.
+fn said_once<'a>(expected: &[u8], ours: &'a [u8]) -> &'a [u8] {
+    if check::same(expected, b"refused 50 0 !") {
+        return text::first_item(ours);
+    }
+    ours
 }
 
 // Compares one line's answer with ours, and writes it where they differ.
@@ -92,7 +95,7 @@ fn compare(line: &[u8], tally: Tally) -> Tally {
         return tally;
     }
     let bytes = made.bytes;
-    let ours = text::part(&bytes, 0, made.len);
+    let ours = said_once(expected, text::part(&bytes, 0, made.len));
     if text::agrees(expected, ours) {
         return Tally {
             agree: more(tally.agree),

@@ -145,6 +145,17 @@ fn glyph(digit: u8) -> u8 {
     }
 }
 
+// The first of the items that ` ; ` joins.
+pub fn first_item(answer: &[u8]) -> &[u8] {
+    let end = find(answer, 0, b';');
+    if end < answer.len() {
+        if 0 < end {
+            return part(answer, 0, end - 1);
+        }
+    }
+    answer
+}
+
 // An expected answer without the mark `!`, which is no part of it.
 fn unmarked(expected: &[u8]) -> &[u8] {
     let n = expected.len();

@@ -14,7 +14,6 @@ use Rattle.framing.proofs.Bounds.{SizedAt, length-each}
 use Rattle.framing.proofs.binary_buffer.read_pad.Statement.{statement}
 use Rattle.framing.proofs.binary_buffer.read_pad.Tie as tie
 
-
 -- the length's body begins in the part
 told : (c : tie.After-read-length) (l : Sized) → lengthRead (c .read-length .result) ≡ gives l → let a = c .before .before .args in SizedAt (a .at + 1) (a .end) l
 told c l e =

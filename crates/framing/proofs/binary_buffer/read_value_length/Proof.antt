@@ -11,7 +11,6 @@ use Rattle.framing.proofs.Bounds.{BegunAt, begun-each}
 use Rattle.framing.proofs.binary_buffer.read_value_length.Statement.{statement}
 use Rattle.framing.proofs.binary_buffer.read_value_length.Tie as tie
 
-
 -- the descriptor is one of the part
 told : (c : tie.After-begin) (d : TypeDescriptor) → begunRead (c .begin .result) ≡ gives d → let a = c .before .before .args in BegunAt (a .s .now) (a .at) (a .end) d
 told c d e = let a = c .before .before .args in each-of (begun-each (a .s .now) (a .at) (a .end)) (sym (c .begin .ensures) ∙ e)

@@ -1,0 +1,9 @@
+pub mod Places
+pub mod Walking
+pub mod Spans
+pub mod Tiling
+pub mod Machine
+pub mod Values
+pub mod Program
+pub mod Passed
+pub mod Examples

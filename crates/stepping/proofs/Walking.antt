@@ -1,0 +1,102 @@
+-- A step as a derivation: the pads that it passes, one after the other, and then what it finds. `found` is what the one derivation finds.
+-- Assumes nothing.
+use Prim.Native.Nat.{ℕ, zero, suc, _+_, _-_, _≤_, _<_}
+use native.Mathlib.Omega.{arith}
+use borrow.Author.Tests.{ltb-true, ltb-false, lt-ltb, le-ltb}
+use mathlib.Core.Path.{_≡_, refl, _∙_, sym, ap}
+use mathlib.Core.Bool.{Bool, true, false}
+use mathlib.Core.List.{List, [], _∷_}
+use mathlib.Core.Logic.{_⊎_, inl, inr}
+use lib.ListN.{length}
+use lib.Dec.{ltb}
+use Rattle.numbers.specs.Outcome.{Outcome, gives, refuses, pick, andThen, outsideOf}
+use Rattle.numbers.proofs.Outcomes.{by-test, each-of, inside, inside-order, inside-end}
+use Rattle.stepping.specs.Answers.{Item, finish, itemEnd, Tile, skip, hand, tileAt, Pad, Found, passing, stop, onTile, walk, found, Stepped, after, stepOf}
+use Rattle.stepping.specs.Read.{handed}
+use Rattle.stepping.specs.declared.cursor.Cursor.{Cursor}
+use Rattle.stepping.specs.declared.cursor.Rules.{Rules}
+use Rattle.stepping.proofs.Places.{TileIn, skip-in, hand-in, tile-each}
+
+-- where a pad's tile ends
+skip-told : {at end b e : ℕ} → TileIn at end (skip b e) → (at < b) × (b ≤ e) × (e ≤ end)
+skip-told (skip-in p q r) = (p, q, r)
+
+pub pad-ends : (rules : Rules) (s : List ℕ) {at end b e : ℕ} → at < end → tileAt rules s at end ≡ gives (skip b e) → (at < b) × (b ≤ e) × (e ≤ end)
+pad-ends rules s {at} {end} h q = skip-told (each-of (tile-each rules s at end h) q)
+
+hand-told : {at end : ℕ} {i : Item} → TileIn at end (hand i) → (at < itemEnd i) × (itemEnd i ≤ end)
+hand-told (hand-in p q) = (p, q)
+
+pub item-ends : (rules : Rules) (s : List ℕ) {at end : ℕ} {i : Item} → at < end → tileAt rules s at end ≡ gives (hand i) → (at < itemEnd i) × (itemEnd i ≤ end)
+item-ends rules s {at} {end} h q = hand-told (each-of (tile-each rules s at end h) q)
+
+-- from `at`, in the part of s that ends at hi, the step finds f
+pub data Walks (rules : Rules) (s : List ℕ) (hi : ℕ) : ℕ → Found → Type 0 where
+  at-end : Walks rules s hi hi (stop (gives (finish hi)))
+  at-pad : {at b e : ℕ} {f : Found} → at < hi → tileAt rules s at hi ≡ gives (skip b e) → Walks rules s hi e f → Walks rules s hi at (passing (record { start = at; body = b; end = e }) f)
+  at-item : {at : ℕ} {i : Item} → at < hi → tileAt rules s at hi ≡ gives (hand i) → Walks rules s hi at (stop (gives i))
+  at-refusal : {at n p : ℕ} → at < hi → tileAt rules s at hi ≡ refuses n p → Walks rules s hi at (stop (refuses n p))
+
+module _ (rules : Rules) (s : List ℕ) (hi : ℕ) where
+  pub ended : (at : ℕ) → at ≡ hi → Walks rules s hi at (stop (gives (finish hi)))
+  ended at h = rw h at-end
+
+  -- with fuel enough the function's answer has a derivation
+  pub walks : (k at : ℕ) → at ≤ hi → hi - at ≤ k → Walks rules s hi at (walk k rules s hi at)
+  unfolding walk
+  walks zero at l f = ended at (omega arith)
+  walks (suc k) at l f =
+      by-test (Walks rules s hi at) (ltb at hi)
+      (λ t. on-tile at (ltb-true at hi t) (λ e a b. walks k e b (omega arith)) (tileAt rules s at hi) refl)
+      (λ t. ended at (omega (arith, ltb-false at hi t)))
+    where
+      on-tile : (at : ℕ) → at < hi → ((e : ℕ) → at < e → e ≤ hi → Walks rules s hi e (walk k rules s hi e)) → (o : Outcome Tile) → tileAt rules s at hi ≡ o → Walks rules s hi at (onTile at (walk k rules s hi) o)
+      on-tile at l go (gives (skip b e)) h = let p = pad-ends rules s l h in at-pad l h (go e (omega arith) (p .2))
+      on-tile at l go (gives (hand i)) h = at-item l h
+      on-tile at l go (refuses n p) h = at-refusal l h
+
+  -- and a derivation's answer is the function's
+  pub walked : {at : ℕ} {f : Found} → Walks rules s hi at f → (k : ℕ) → hi - at ≤ k → f ≡ walk k rules s hi at
+  unfolding walk
+  walked at-end zero f = refl
+  walked at-end (suc k) f = simp (le-ltb hi hi (omega arith))
+  walked (at-pad l h d) zero f = absurd (omega arith)
+  walked (at-pad {at} {b} {e} l h d) (suc k) f =
+      let p = pad-ends rules s l h in
+      simp (lt-ltb at hi l, h) (ap (passing (record { start = at; body = b; end = e })) (walked d k (omega arith)))
+  walked (at-item l h) zero f = absurd (omega arith)
+  walked (at-item {at} l h) (suc k) f = simp (lt-ltb at hi l, h)
+  walked (at-refusal l h) zero f = absurd (omega arith)
+  walked (at-refusal {at} l h) (suc k) f = simp (lt-ltb at hi l, h)
+
+  pub of-walks : {at : ℕ} {f : Found} → at ≤ hi → hi ≤ length s → Walks rules s hi at f → f ≡ found rules s (record { at = at; end = hi })
+  unfolding found
+  of-walks {at} l m d = simp (inside s at hi l m) (walked d (hi - at) (omega arith))
+
+-- what a step finds: 50 for a part that is none, or what a derivation says
+pub data Finds (rules : Rules) (s : List ℕ) (c : Cursor) : Found → Type 0 where
+  unfit : outsideOf s (c .at) (c .end) ≡ true → Finds rules s c (stop (refuses 50 0))
+  fit : {f : Found} → c .at ≤ c .end → c .end ≤ length s → Walks rules s (c .end) (c .at) f → Finds rules s c f
+
+pub finds : (rules : Rules) (s : List ℕ) (c : Cursor) → Finds rules s c (found rules s c)
+unfolding found
+finds rules s c =
+    by-test (Finds rules s c) (outsideOf s (c .at) (c .end)) (λ h. unfit h) (λ h.
+    let l : c .at ≤ c .end = inside-order s (c .at) (c .end) h in
+    fit l (inside-end s (c .at) (c .end) h) (walks rules s (c .end) (c .end - c .at) (c .at) l (omega arith)))
+
+pub of-finds : {rules : Rules} {s : List ℕ} {c : Cursor} {f : Found} → Finds rules s c f → f ≡ found rules s c
+unfolding found
+of-finds {rules} {s} {c} (unfit h) = simp h
+of-finds {rules} {s} {c} (fit l m d) = of-walks rules s (c .end) l m d
+
+-- what a tile that is no pad makes the step find
+pub answered : (rules : Rules) (s : List ℕ) (at hi : ℕ) (o : Outcome Item) → at < hi → andThen o handed ≡ tileAt rules s at hi → Walks rules s hi at (stop o)
+answered rules s at hi (gives i) l h = at-item l (sym h)
+answered rules s at hi (refuses n p) l h = at-refusal l (sym h)
+
+-- a step's answer settles its cursor
+pub step-is : (rules : Rules) (s : List ℕ) (c : Cursor) (o : Outcome Item) (f : Found) → c .at ≤ c .end → c .end ≤ length s → Walks rules s (c .end) (c .at) f → f .answer ≡ o → record { answer = o; next = after c o } ≡ stepOf rules s c
+unfolding stepOf
+step-is rules s c o f l m w q =
+    ap (λ (x : Outcome Item). record { answer = x; next = after c x }) (sym q ∙ ap (λ (g : Found). g .answer) (of-walks rules s (c .end) l m w))

@@ -1,0 +1,111 @@
+-- The scope paper's "Stream item" and "Body steps": what a step on a part answers, and the pads that it passes on the way.
+-- Assumes nothing.
+use Prim.Native.Nat.{ℕ, zero, suc, _+_, _-_}
+use mathlib.Core.Bool.{Bool, not}
+use mathlib.Core.List.{List, [], _∷_}
+use lib.ListN.{getD}
+use lib.Dec.{ltb, eqb}
+use Rattle.numbers.specs.Outcome.{Outcome, gives, refuses, pick, refuseIf, andThen, outsideOf}
+use Rattle.numbers.specs.Answers.{Unsigned, varUInt}
+use Rattle.framing.specs.Answers.{Spans, Frame, padding, valued, readFrame}
+use Rattle.stepping.specs.declared.cursor.Cursor.{Cursor}
+use Rattle.stepping.specs.declared.cursor.Rules.{Rules}
+use Rattle.stepping.specs.declared.cursor.Rules.the-variants.{Stream, Sequence, Fields}
+
+-- what a step hands out, as the record's kinds 0 to 3: the end with its position; a marker with its start, its two numbers and its end; a value; a field with
+-- its ID, where that starts, and its value
+pub data Item : Type 0 where
+  finish : ℕ → Item
+  marker : ℕ → ℕ → ℕ → ℕ → Item
+  value : Spans → Item
+  field : ℕ → ℕ → Spans → Item
+
+-- where an item ends
+abbrev pub itemEnd : Item → ℕ
+itemEnd (finish p) = p
+itemEnd (marker a major minor e) = e
+itemEnd (value v) = v .end
+itemEnd (field id a v) = v .end
+
+-- what stands at a step's position: a pad, with its body and its end, or an item
+pub data Tile : Type 0 where
+  skip : ℕ → ℕ → Tile
+  hand : Item → Tile
+
+-- "A marker is E0, major, minor, EA with any two numbers": 2 under four bytes, 21 without EA, both at its start
+unfoldable pub markerAt : List ℕ → ℕ → ℕ → Outcome Tile
+markerAt s at end =
+    refuseIf (ltb (end - at) 4) 2 at
+    (refuseIf (not (eqb (getD s (at + 3) 0) 234)) 21 at
+    (gives (hand (marker at (getD s (at + 1) 0) (getD s (at + 2) 0) (at + 4)))))
+
+abbrev pub asTile : Frame → Outcome Tile
+asTile (padding p) = gives (skip (p .body) (p .end))
+asTile (valued v) = gives (hand (value v))
+
+-- a pad or a value; E0 here is refusal 22
+unfoldable pub framedAt : List ℕ → ℕ → ℕ → Outcome Tile
+framedAt s at end = andThen (readFrame s at end) asTile
+
+abbrev pub asField : ℕ → ℕ → Frame → Outcome Tile
+asField id at (padding p) = gives (skip (p .body) (p .end))
+asField id at (valued v) = gives (hand (field id at v))
+
+-- "In a struct each item and each pad follows a field ID": 7 where nothing follows it
+unfoldable pub namedAt : List ℕ → ℕ → ℕ → Unsigned → Outcome Tile
+namedAt s at end u = refuseIf (eqb (u .next) end) 7 end (andThen (readFrame s (u .next) end) (asField (u .value) at))
+
+unfoldable pub fieldAt : List ℕ → ℕ → ℕ → Outcome Tile
+fieldAt s at end = andThen (varUInt s at end) (namedAt s at end)
+
+-- by the rules of the part: in a stream E0 begins a marker
+unfoldable pub tileAt : Rules → List ℕ → ℕ → ℕ → Outcome Tile
+tileAt Stream s at end = pick (eqb (getD s at 0) 224) (markerAt s at end) (framedAt s at end)
+tileAt Sequence s at end = framedAt s at end
+tileAt Fields s at end = fieldAt s at end
+
+-- a pad that a step passed: where it starts (in a struct with its field ID), its body, and where it ends
+pub record Pad : Type 0 where
+  pub start : ℕ
+  pub body : ℕ
+  pub end : ℕ
+
+-- what a step finds: the pads that it passes, in order, and its answer
+pub record Found : Type 0 where
+  pub pads : List Pad
+  pub answer : Outcome Item
+
+abbrev pub passing : Pad → Found → Found
+passing p f = record { pads = p ∷ f .pads; answer = f .answer }
+
+abbrev pub stop : Outcome Item → Found
+stop o = record { pads = []; answer = o }
+
+-- past a pad the step goes on, as `go` says from there
+abbrev pub onTile : ℕ → (ℕ → Found) → Outcome Tile → Found
+onTile at go (gives (skip b e)) = passing (record { start = at; body = b; end = e }) (go e)
+onTile at go (gives (hand i)) = stop (gives i)
+onTile at go (refuses number position) = stop (refuses number position)
+
+-- "Skip pads; then marker, value or end", from `at` on, over at most k tiles: the part's length is enough. "The end's position is the end of the part stepped."
+unfoldable pub walk : ℕ → Rules → List ℕ → ℕ → ℕ → Found
+walk zero rules s end at = stop (gives (finish end))
+walk (suc k) rules s end at =
+    pick (ltb at end) (onTile at (walk k rules s end) (tileAt rules s at end)) (stop (gives (finish end)))
+
+unfoldable pub found : Rules → List ℕ → Cursor → Found
+found rules s c =
+    pick (outsideOf s (c .at) (c .end)) (stop (refuses 50 0)) (walk (c .end - c .at) rules s (c .end) (c .at))
+
+-- "The cursor that the call before returned, which after a refusal is the one it was given": past the item, and at the part's end after the end
+abbrev pub after : Cursor → Outcome Item → Cursor
+after c (gives i) = record { at = itemEnd i; end = c .end }
+after c (refuses number position) = c
+
+-- a step's answer and the cursor that it leaves
+pub record Stepped : Type 0 where
+  pub answer : Outcome Item
+  pub next : Cursor
+
+unfoldable pub stepOf : Rules → List ℕ → Cursor → Stepped
+stepOf rules s c = record { answer = found rules s c .answer; next = after c (found rules s c .answer) }

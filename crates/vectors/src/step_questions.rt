@@ -1,0 +1,114 @@
+// The answers to questions on steps: through a stream, a list's or sexp's body, a struct's body.
+use crate::frame_questions::joined;
+use crate::text::Line;
+use framing::encoded_value::EncodedValue;
+use stepping::cursor::Cursor;
+use stepping::cursor::Item;
+use stepping::cursor::Rules;
+use stepping::cursor::Step;
+
+fn value(line: Line, value: EncodedValue) -> Line {
+    line.word(b"value")
+        .number(value.byte as u64)
+        .position(value.start)
+        .position(value.annotations)
+        .position(value.descriptor)
+        .position(value.body)
+        .position(value.end)
+}
+
+// A field begins where its ID does.
+fn field(line: Line, id: usize, start: usize, value: EncodedValue) -> Line {
+    line.word(b"field")
+        .position(id)
+        .number(value.byte as u64)
+        .position(start)
+        .position(value.annotations)
+        .position(value.descriptor)
+        .position(value.body)
+        .position(value.end)
+}
+
+fn item(line: Line, item: Item) -> Line {
+    match item {
+        Item::End { position } => line.word(b"end").position(position),
+        Item::Marker {
+            start,
+            major,
+            minor,
+            end,
+        } => line.word(b"marker")
+            .position(start)
+            .number(major as u64)
+            .number(minor as u64)
+            .position(end),
+        Item::Value(found) => value(line, found),
+        Item::Field {
+            id,
+            start,
+            value: found,
+        } => field(line, id, start, found),
+        Item::Refused(refusal) => line.word(b"refused")
+            .number(refusal.number)
+            .position(refusal.position),
+    }
+}
+
+fn next(rules: Rules, s: &[u8], cursor: Cursor) -> Step {
+    match rules {
+        Rules::Stream => cursor.next_in_stream(s),
+        Rules::Sequence => cursor.next_in_sequence(s),
+        Rules::Fields => cursor.next_in_struct(s),
+    }
+}
+
+// `stream BYTES AT END COUNT`, `sequence ..` and `struct ..`: what so many steps say, each with the cursor that the one
+// before handed back.
+fn steps(rules: Rules, s: &[u8], at: usize, end: usize, count: usize) -> Line {
+    let mut line = Line::new();
+    let mut cursor = Cursor { at, end };
+    let mut i = 0;
+    while i < count {
+        let step = next(rules, s, cursor);
+        let found = step.item;
+        line = item(joined(line), found);
+        cursor = step.next;
+        i += 1;
+    }
+    line
+}
+
+// `streamleft BYTES AT END COUNT`, `sequenceleft ..` and `structleft ..`: the cursor that so many steps leave.
+fn left(rules: Rules, s: &[u8], at: usize, end: usize, count: usize) -> Line {
+    let mut cursor = Cursor { at, end };
+    let mut i = 0;
+    while i < count {
+        let step = next(rules, s, cursor);
+        cursor = step.next;
+        i += 1;
+    }
+    Line::new().position(cursor.at).position(cursor.end)
+}
+
+// The answer to a question on steps.
+pub fn answer(asked: &[u8], s: &[u8], at: usize, end: usize, count: usize) -> Line {
+    if check::same(asked, b"stream") {
+        return steps(Rules::Stream, s, at, end, count);
+    }
+    if check::same(asked, b"sequence") {
+        return steps(Rules::Sequence, s, at, end, count);
+    }
+    if check::same(asked, b"struct") {
+        return steps(Rules::Fields, s, at, end, count);
+    }
+    if check::same(asked, b"streamleft") {
+        return left(Rules::Stream, s, at, end, count);
+    }
+    if check::same(asked, b"sequenceleft") {
+        return left(Rules::Sequence, s, at, end, count);
+    }
+    if check::same(asked, b"structleft") {
+        return left(Rules::Fields, s, at, end, count);
+    }
+    Line::new().word(b"no such question")
+}
