@@ -18,14 +18,14 @@ wholeVarInt s = varInt s 0 (length s)
 
 -- 7F eight times, FF: 2^63 - 1. 00 nine times, 80: 20. 00 ten times: 3 at 10.
 pub var-uint-edges :
-  map wholeVarUInt ((127 ∷ 127 ∷ 127 ∷ 127 ∷ 127 ∷ 127 ∷ 127 ∷ 127 ∷ 255 ∷ []) ∷ (0 ∷ 0 ∷ 0 ∷ 0 ∷ 0 ∷ 0 ∷ 0 ∷ 0 ∷ 0 ∷ 128 ∷ []) ∷ (0 ∷ 0 ∷ 0 ∷ 0 ∷ 0 ∷ 0 ∷ 0 ∷ 0 ∷ 0 ∷ 0 ∷ []) ∷ [])
-  ≡ gives (record { value = 9223372036854775807; next = 9 }) ∷ refuses 20 0 ∷ refuses 3 10 ∷ []
+    map wholeVarUInt ((127 ∷ 127 ∷ 127 ∷ 127 ∷ 127 ∷ 127 ∷ 127 ∷ 127 ∷ 255 ∷ []) ∷ (0 ∷ 0 ∷ 0 ∷ 0 ∷ 0 ∷ 0 ∷ 0 ∷ 0 ∷ 0 ∷ 128 ∷ []) ∷ (0 ∷ 0 ∷ 0 ∷ 0 ∷ 0 ∷ 0 ∷ 0 ∷ 0 ∷ 0 ∷ 0 ∷ []) ∷ [])
+    ≡ gives (record { value = 9223372036854775807; next = 9 }) ∷ refuses 20 0 ∷ refuses 3 10 ∷ []
 unfolding varUInt varNumber lastByte lastAmong varUIntOf ofDigits outsideOf
 var-uint-edges = refl
 
 -- C0: negative zero. 40 81: -1.
 pub var-int-edges :
-  map wholeVarInt ((192 ∷ []) ∷ (64 ∷ 129 ∷ []) ∷ [])
-  ≡ gives (record { negative = true; magnitude = 0; next = 1 }) ∷ gives (record { negative = true; magnitude = 1; next = 2 }) ∷ []
+    map wholeVarInt ((192 ∷ []) ∷ (64 ∷ 129 ∷ []) ∷ [])
+    ≡ gives (record { negative = true; magnitude = 0; next = 1 }) ∷ gives (record { negative = true; magnitude = 1; next = 2 }) ∷ []
 unfolding varInt varNumber lastByte lastAmong varIntNegative varIntMagnitude ofDigits outsideOf
 var-int-edges = refl

@@ -4,3 +4,12 @@ pub mod Words
 pub mod Format
 pub mod Runs
 pub mod Theorems
+pub mod Utf8
+pub mod Sequence
+pub mod Widen
+pub mod Fields
+pub mod Uint
+pub mod Magnitude
+pub mod Scalars
+pub mod Reached
+pub mod Edges

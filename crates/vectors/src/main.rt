@@ -8,6 +8,7 @@ ghost use lib.ListN.{length};
 
 mod frame_questions;
 mod number_questions;
+mod scalar_questions;
 mod step_questions;
 mod text;
 
@@ -47,21 +48,24 @@ fn answer(line: &[u8]) -> Line {
     if check::same(asked, b"descriptor") {
         return number_questions::descriptor(s);
     }
-    let line = frame_questions::answer(asked, s, a, b, c);
-    if 0 < line.len {
-        return line;
+    let on_frames = frame_questions::answer(asked, s, a, b, c);
+    if 0 < on_frames.len {
+        return on_frames;
     }
-    step_questions::answer(asked, s, a, b, c)
+    let on_steps = step_questions::answer(asked, s, a, b, c);
+    if 0 < on_steps.len {
+        return on_steps;
+    }
+    let on_values = scalar_questions::answer(asked, s, a, b, c);
+    if 0 < on_values.len {
+        return on_values;
+    }
+    Line::new().word(b"no such question")
 }
 
-// Whether a question is on scalars or walks. They are passed over, and count neither as agreeing nor as differing.
+// Whether a question is on walks. The layer above answers those; here they are passed over, and count neither as agreeing
+// nor as differing.
 fn for_later(asked: &[u8]) -> bool {
-    if check::same(asked, b"scalar") {
-        return true;
-    }
-    if check::same(asked, b"stepin") {
-        return true;
-    }
     check::same(asked, b"walk")
 }
 

@@ -90,7 +90,7 @@ fn left(rules: Rules, s: &[u8], at: usize, end: usize, count: usize) -> Line {
     Line::new().position(cursor.at).position(cursor.end)
 }
 
-// The answer to a question on steps.
+// The answer to a question on steps, and nothing where it is on something else.
 pub fn answer(asked: &[u8], s: &[u8], at: usize, end: usize, count: usize) -> Line {
     if check::same(asked, b"stream") {
         return steps(Rules::Stream, s, at, end, count);
@@ -110,5 +110,5 @@ pub fn answer(asked: &[u8], s: &[u8], at: usize, end: usize, count: usize) -> Li
     if check::same(asked, b"structleft") {
         return left(Rules::Fields, s, at, end, count);
     }
-    Line::new().word(b"no such question")
+    Line::new()
 }

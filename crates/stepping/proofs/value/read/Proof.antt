@@ -1,0 +1,51 @@
+-- `read` meets its contract: the value is framed, and then read.
+-- Assumes nothing.
+use borrow.Author.Needs.{needs}
+use mathlib.Core.Path.{_∙_, sym, ap}
+use Rattle.numbers.proofs.Outcomes.{then-by, each-of}
+use Rattle.framing.specs.Read.{framedRead}
+use Rattle.stepping.specs.Scalars.{scalarOf, readScalar}
+use Rattle.stepping.proofs.Reading.{value-in-each}
+use Rattle.stepping.proofs.value.read.Statement.{statement}
+use Rattle.stepping.proofs.value.read.Tie as tie
+
+value-in-requires : tie.Need-value-in-requires
+value-in-requires c κs = search needs
+
+enum-known-value : tie.Need-enum-known-value
+enum-known-value c = search needs
+
+scalar-of-requires : tie.Need-scalar-of-requires
+scalar-of-requires c κs =
+    let q = c .before .before .before in
+    let a = q .before .before .args in
+    let i = each-of (value-in-each (a .s .now) (a .start) (a .end) (a .at)) (sym (q .value-in .ensures) ∙ ap framedRead (c .before .value .given .1)) in
+    (i .order, i .within)
+
+enum-known-refusal : tie.Need-enum-known-refusal
+enum-known-refusal c = search needs
+
+returns : tie.Need-returns
+unfolding readScalar
+returns c =
+    let q = c .before .before .before .before in
+    let a = q .before .before .args in
+    c .scalar-of .ensures ∙ then-by framedRead (scalarOf (a .s .now)) (c .before .before .value .given .1) (q .value-in .ensures)
+
+returns-2 : tie.Need-returns-2
+unfolding readScalar
+returns-2 c =
+    let q = c .before .before .before in
+    let a = q .before .before .args in
+    then-by framedRead (scalarOf (a .s .now)) (c .before .refusal .given .1) (q .value-in .ensures)
+
+pub read-spec : {M : Type 1} → statement M
+read-spec =
+    tie.close
+    (tie.spec
+    value-in-requires
+    enum-known-value
+    scalar-of-requires
+    enum-known-refusal
+    returns
+    returns-2)
