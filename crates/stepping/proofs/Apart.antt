@@ -20,7 +20,7 @@ use Rattle.framing.proofs.Looked.{SameHeader, value-same, annotation-same}
 use Rattle.stepping.specs.Answers.{Item, Tile, skip, hand, itemEnd, tileAt, Pad, Found, found, after, Stepped, stepOf}
 use Rattle.stepping.specs.Scalars.{valueIn, isContainer, Opened, opened, stepIn, Scalar, scalarOf, readScalar, partOf, scalarPart, container}
 use Rattle.stepping.specs.Runs.{cursor, Answers, Run, none, call, items}
-use Rattle.stepping.specs.Reached.{ValueOf, a-value, a-field, itemStart, Part, whole, inner, Handed, left, Body, of-value, of-pad, In, Agree, Outside, NotOwner, EntryAt, past, AnnotationRun, none as no-more, call as one-more, Annotations, Opens, Scalars, Bytes, SameAnswers}
+use Rattle.stepping.specs.Reached.{ValueOf, a-value, a-field, itemStart, Part, whole, inner, Handed, left, Body, of-value, of-pad, In, Agree, Outside, NotOwner, EntryAt, past, AnnotationRun, none as no-more, call as one-more, Annotations, Opens, Readings, Bytes, SameAnswers}
 use Rattle.stepping.specs.Theorems.{Apart}
 use Rattle.stepping.specs.declared.cursor.Cursor.{Cursor}
 use Rattle.stepping.specs.declared.cursor.Rules.{Rules}

@@ -12,7 +12,7 @@ use lib.Dec.{leb, ltb, eqb, eqb·suc-zero}
 use borrow.Author.Tests.{le-leb, lt-leb, lt-ltb, le-ltb, ltb-true, ltb-false, leb-true, eqb-true}
 use Rattle.numbers.specs.Outcome.{pick}
 use Rattle.numbers.proofs.Outcomes.{by-test}
-use Rattle.stepping.specs.Utf8.{Range, range, inRange, tail, goesOn, wellFormed, Scalar, Scalars, no-more, also, encode, encoded, EncodedAccepted, AcceptedEncoded}
+use Rattle.stepping.specs.Utf8.{Range, range, inRange, tail, goesOn, wellFormed, ScalarValue, ScalarValues, no-more, also, encode, encoded, EncodedAccepted, AcceptedEncoded}
 use Rattle.stepping.specs.Sequence.{tailsOf, lowOf, highOf, wanted}
 use Rattle.stepping.proofs.Rows.{both-first, both-second, by-less, goes-ascii, goes-lead, in-range, goes-in}
 
@@ -90,7 +90,7 @@ second-taken b x n bs h e r =
 tail-taken : (x n : ℕ) (bs : List ℕ) → 0x80 ≤ x → x ≤ 0xBF → goesOn (x ∷ bs) (replicate (suc n) tail) ≡ goesOn bs (replicate n tail)
 tail-taken x n bs h k = goes-in x bs tail (replicate n tail) (in-range 0x80 0xBF x h k)
 
-encode-taken : (c : ℕ) (bs : List ℕ) → Scalar c → goesOn (encode c ++ bs) [] ≡ goesOn bs []
+encode-taken : (c : ℕ) (bs : List ℕ) → ScalarValue c → goesOn (encode c ++ bs) [] ≡ goesOn bs []
 encode-taken c bs sc =
     by-less c 0x80 (λ h. rw (encode-one c h) (goes-ascii c bs h)) (λ h.
     by-less c 0x800 (λ k. rw (encode-two c h (omega arith)) (taken-two h k)) (λ k.
@@ -152,7 +152,7 @@ encoded-accepted (c ∷ cs) (also h r) = encode-taken c (encoded cs) h ∙ encod
 record Begun (n : ℕ) (bs : List ℕ) : Type 0 where
   value : ℕ
   rest : List ℕ
-  scalar : Scalar value
+  scalar : ScalarValue value
   is : encode value ++ rest ≡ bs
   shorter : length rest ≤ n
   goes : wellFormed rest ≡ true
@@ -228,7 +228,7 @@ two-is b x h k s =
     let q : 0x80 + twoValue b x % 0x40 ≡ x = omega arith in
     encode-two (twoValue b x) (omega arith) (omega arith) ∙ rw (p, q)
 
-two-scalar : (b x : ℕ) → 0xC2 ≤ b → b < 0xE0 → Second b x → Scalar (twoValue b x)
+two-scalar : (b x : ℕ) → 0xC2 ≤ b → b < 0xE0 → Second b x → ScalarValue (twoValue b x)
 unfolding twoValue
 two-scalar b x h k s = inl (omega (arith, s .high))
 
@@ -252,7 +252,7 @@ module _ (b x y : ℕ) (h : 0xE0 ≤ b) (k : b < 0xF0) (s : Second b x) (yl : 0x
       let r : 0x80 + threeValue b x y % 0x40 ≡ y = omega arith in
       encode-three (threeValue b x y) three-low (omega arith) ∙ rw (p, q, r)
 
-  three-scalar : Scalar (threeValue b x y)
+  three-scalar : ScalarValue (threeValue b x y)
   unfolding threeValue
   three-scalar =
       let m : x ≤ 0xBF = s .high in
@@ -349,7 +349,7 @@ begins n b bs l h =
     })
     (λ k. begun n b (tailsOf b) bs l (lead-is b) (sym (goes-lead b bs k) ∙ h))
 
-decoded : (n : ℕ) (bs : List ℕ) → length bs ≤ n → wellFormed bs ≡ true → (cs : List ℕ) × Scalars cs × (encoded cs ≡ bs)
+decoded : (n : ℕ) (bs : List ℕ) → length bs ≤ n → wellFormed bs ≡ true → (cs : List ℕ) × ScalarValues cs × (encoded cs ≡ bs)
 unfolding encoded
 decoded zero [] l h = ([], no-more, refl)
 decoded zero (b ∷ bs) l h = absurd (omega arith)

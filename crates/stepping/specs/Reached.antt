@@ -90,8 +90,8 @@ Annotations s end at r = r ≡ readAnnotation s at end
 abbrev pub Opens : List ℕ → ℕ → ℕ → ℕ → Outcome Opened → Type 0
 Opens s lo hi at r = r ≡ stepIn s lo hi at
 
-abbrev pub Scalars : List ℕ → ℕ → ℕ → ℕ → Outcome Scalar → Type 0
-Scalars s lo hi at r = r ≡ readScalar s lo hi at
+abbrev pub Readings : List ℕ → ℕ → ℕ → ℕ → Outcome Scalar → Type 0
+Readings s lo hi at r = r ≡ readScalar s lo hi at
 
 abbrev pub Bytes : List ℕ → ℕ → ℕ → ℕ → List ℕ → Type 0
 Bytes s lo hi at r = r ≡ scalarPart s lo hi at

@@ -6,7 +6,7 @@ use mathlib.Core.List.{List}
 use lib.ListN.{length}
 use Rattle.stepping.specs.Answers.{Stepped, found}
 use Rattle.stepping.specs.Runs.{cursor, Answers, Run, Tiled, Passes, Stands}
-use Rattle.stepping.specs.Reached.{Body, Agree, In, Annotations, Opens, Scalars, Bytes, SameAnswers}
+use Rattle.stepping.specs.Reached.{Body, Agree, In, Annotations, Opens, Readings, Bytes, SameAnswers}
 use Rattle.stepping.specs.declared.cursor.Cursor.{Cursor}
 use Rattle.stepping.specs.declared.cursor.Rules.{Rules}
 
@@ -18,7 +18,7 @@ Tiling = (rules : Rules) (s : List ℕ) (lo hi : ℕ) (rs : List Stepped) → Ru
 -- Demand 3, second half: of every two maps of one length, alike outside one body that calls on the first reach, whichever part of them is the stream: outside
 -- that body the six entries give the same answers.
 abbrev pub Apart : Type 0
-Apart = (s s' : List ℕ) (lo₀ hi₀ b e : ℕ) → Body s (λ rules. Answers rules s) lo₀ hi₀ b e → Agree s s' (In b e) → SameAnswers (λ rules. Answers rules s) (λ rules. Answers rules s') (Annotations s) (Annotations s') (Opens s) (Opens s') (Scalars s) (Scalars s') (Bytes s) (Bytes s') lo₀ hi₀ b e
+Apart = (s s' : List ℕ) (lo₀ hi₀ b e : ℕ) → Body s (λ rules. Answers rules s) lo₀ hi₀ b e → Agree s s' (In b e) → SameAnswers (λ rules. Answers rules s) (λ rules. Answers rules s') (Annotations s) (Annotations s') (Opens s) (Opens s') (Readings s) (Readings s') (Bytes s) (Bytes s') lo₀ hi₀ b e
 
 -- The pads of a step's definition are pads by their bytes, one after the other from its cursor to its item, its end or its refusal.
 abbrev pub Passing : Type 0

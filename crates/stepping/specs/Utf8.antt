@@ -63,12 +63,12 @@ unfoldable pub utf8 : List ℕ → ℕ → ℕ → Bool
 utf8 s at end = pick (outsideOf s at end) false (wellFormed (part s at end))
 
 -- D76, "Unicode scalar value": 0 to D7FF, and E000 to 10FFFF.
-abbrev pub Scalar : ℕ → Type 0
-Scalar c = (c ≤ 0xD7FF) ⊎ ((0xE000 ≤ c) × (c ≤ 0x10FFFF))
+abbrev pub ScalarValue : ℕ → Type 0
+ScalarValue c = (c ≤ 0xD7FF) ⊎ ((0xE000 ≤ c) × (c ≤ 0x10FFFF))
 
-pub data Scalars : List ℕ → Type 0 where
-  no-more : Scalars []
-  also : {c : ℕ} {cs : List ℕ} → Scalar c → Scalars cs → Scalars (c ∷ cs)
+pub data ScalarValues : List ℕ → Type 0 where
+  no-more : ScalarValues []
+  also : {c : ℕ} {cs : List ℕ} → ScalarValue c → ScalarValues cs → ScalarValues (c ∷ cs)
 
 -- Table 3-6, "UTF-8 Bit Distribution": one byte to 7F, two to 7FF, three to FFFF, then four; six bits in each byte after the first.
 unfoldable pub encode : ℕ → List ℕ
@@ -84,8 +84,8 @@ encoded (c ∷ cs) = encode c ++ encoded cs
 
 -- every list of scalar values, encoded, is well-formed
 abbrev pub EncodedAccepted : Type 0
-EncodedAccepted = (cs : List ℕ) → Scalars cs → wellFormed (encoded cs) ≡ true
+EncodedAccepted = (cs : List ℕ) → ScalarValues cs → wellFormed (encoded cs) ≡ true
 
 -- what is well-formed is the encoding of a list of scalar values
 abbrev pub AcceptedEncoded : Type 0
-AcceptedEncoded = (bs : List ℕ) → wellFormed bs ≡ true → (cs : List ℕ) × Scalars cs × (encoded cs ≡ bs)
+AcceptedEncoded = (bs : List ℕ) → wellFormed bs ≡ true → (cs : List ℕ) × ScalarValues cs × (encoded cs ≡ bs)
