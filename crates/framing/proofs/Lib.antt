@@ -3,3 +3,4 @@ pub mod Nibbles
 pub mod Told
 pub mod Accepts
 pub mod Looked
+pub mod Refusing

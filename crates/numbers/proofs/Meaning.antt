@@ -12,9 +12,9 @@ use lib.Dec.{ltb, eqb}
 use borrow.Author.Tests.{ltb-true, ltb-false, eqb-true, eqb-false, le-ltb, lt-ltb, ne-eqb, eq-eqb}
 use Rattle.numbers.specs.Format.{VarBytes, last, more, ofDigits, lowSeven, varUIntOf, varIntMagnitude, intNegative, intMagnitude}
 use Rattle.numbers.specs.Outcome.{Outcome, gives, refuses, refuseIf, pick, part, outsideOf}
-use Rattle.numbers.specs.Answers.{Unsigned, Signed, Fixed, unsigned, signed, lastByte, varNumber, varUInt, varInt, int}
+use Rattle.numbers.specs.Answers.{Unsigned, Signed, Fixed, unsigned, signed, mostBytes, lastByte, varNumber, varUInt, varInt, int}
 use Rattle.numbers.specs.Meaning.{NumberAt, NumberTold, reads, outside, cut-short, too-long, VarUIntTold, VarIntTold, VarUIntReads, VarIntReads, VarUIntSmall, VarIntSmall, IntTold, IntsTold, IntsRead}
-use Rattle.numbers.proofs.Outcomes.{by-test, by-refusal, within-part, inside-order, inside-end, outside-cases, Each, given, each-within, each-pick, each-refuse, each-of, each-if}
+use Rattle.numbers.proofs.Outcomes.{by-test, by-refusal, within-part, inside-order, inside-end, outside-cases, Each, given, each-within, each-pick, each-refuse, each-of, each-if, Proper, gave, proper-within, proper-refuse}
 use Rattle.numbers.proofs.Parts.{part-cons, part-none, part-one, part-length, part-at}
 use Rattle.numbers.proofs.Digits.{digit-below, digits-below, lows-below}
 use Rattle.numbers.proofs.LastByte.{Found, found, last-is}
@@ -194,6 +194,14 @@ var-uint-bounded s at end =
       short = omega (arith, r .short);
       small = var-uint-small s at end u e;
     })
+
+-- in a part of the slice a VarUInt is not refused with 50
+pub var-uint-proper : (s : List ℕ) (at end : ℕ) → at ≤ end → end ≤ length s → Proper (varUInt s at end)
+unfolding varUInt varNumber
+var-uint-proper s at end h k =
+    proper-within s at end h k
+    (proper-refuse (eqb (lastByte s at end) end) 3 end (λ e. omega arith) (λ _.
+    proper-refuse (ltb mostBytes (lastByte s at end + 1 - at)) 20 at (λ e. omega arith) (λ _. gave)))
 
 int-told : (s : List ℕ) (at end size : ℕ) → Each (IntTold s at end size) (int s at end size)
 unfolding int intNegative intMagnitude ofDigits

@@ -119,3 +119,23 @@ refuse-gives false n p h = (refl, h)
 pub then-gives : {A B : Type 0} (o : Outcome A) (f : A → Outcome B) {b : B} → andThen o f ≡ gives b → (a : A) × (o ≡ gives a) × (f a ≡ gives b)
 then-gives (gives a) f h = (a, refl, h)
 then-gives (refuses n p) f h = absurd (let z : _≡_ {A = ℕ} 0 1 = cc in omega arith)
+
+-- an outcome that is no refusal 50, where nothing is said of what is given
+pub data Proper {A : Type 0} : Outcome A → Type 0 where
+  gave : {a : A} → Proper (gives a)
+  other : {n p : ℕ} → (n ≡ 50 → ⊥) → Proper (refuses n p)
+
+pub proper-refuse : {A : Type 0} (t : Bool) (n p : ℕ) {o : Outcome A} → (n ≡ 50 → ⊥) → (t ≡ false → Proper o) → Proper (refuseIf t n p o)
+proper-refuse true n p d h = other d
+proper-refuse false n p d h = h refl
+
+pub proper-pick : {A : Type 0} (t : Bool) {x y : Outcome A} → Proper x → Proper y → Proper (pick t x y)
+proper-pick true h k = h
+proper-pick false h k = k
+
+pub proper-within : {A : Type 0} (s : List ℕ) (at end : ℕ) {o : Outcome A} → at ≤ end → end ≤ length s → Proper o → Proper (within s at end o)
+proper-within s at end h k r = rw (inside s at end h k) r
+
+pub proper-then : {A B : Type 0} {P : A → Type 0} {o : Outcome A} {f : A → Outcome B} → Each P o → Proper o → ((a : A) → P a → Proper (f a)) → Proper (andThen o f)
+proper-then (given {a} p) r h = h a p
+proper-then refused (other d) h = other d

@@ -20,3 +20,4 @@ pub mod Entries
 pub mod Edges
 pub mod Passed
 pub mod Examples
+pub mod Moves

@@ -3,53 +3,101 @@
 use Prim.Native.Nat.{ℕ, _+_, _-_, _≤_, _<_}
 use native.Mathlib.Omega.{arith}
 use borrow.Author.Tests.{ltb-false}
+use mathlib.Core.Path.{_≡_}
 use mathlib.Core.Bool.{not}
 use mathlib.Core.List.{List}
-use lib.ListN.{getD}
+use lib.ListN.{length, getD}
 use lib.Dec.{ltb, eqb}
-use Rattle.numbers.proofs.Outcomes.{Each, given, each-refuse, each-pick, each-then}
-use Rattle.numbers.proofs.Meaning.{Bounded, var-uint-bounded}
-use Rattle.framing.specs.Answers.{Frame}
+use Rattle.numbers.specs.Outcome.{gives}
+use Rattle.numbers.proofs.Outcomes.{Each, given, each-refuse, each-pick, each-then, each-of, Proper, gave, proper-refuse, proper-pick, proper-then}
+use Rattle.numbers.proofs.Meaning.{Bounded, var-uint-bounded, var-uint-proper}
+use Rattle.framing.specs.Answers.{Frame, padding, valued, Spans}
 use Rattle.framing.proofs.Bounds.{FrameIn, pad-in, value-in, frame-each, PaddedAt, Ordered}
-use Rattle.stepping.specs.Answers.{Item, value, field, itemEnd, Tile, skip, hand, markerAt, framedAt, asTile, namedAt, asField, fieldAt, tileAt}
+use Rattle.framing.proofs.Refusing.{frame-proper}
+use Rattle.stepping.specs.Answers.{Item, marker, value, field, itemEnd, Tile, skip, hand, markerAt, framedAt, asTile, namedAt, asField, fieldAt, tileAt}
 use Rattle.stepping.specs.declared.cursor.Rules.{Rules}
 use Rattle.stepping.specs.declared.cursor.Rules.the-variants.{Stream, Sequence, Fields}
 
+-- a value's descriptor and body lie in at..end, and its header has a byte at least
+pub record ValueIn (at end : ℕ) (v : Spans) : Type 0 where
+  pub low : at ≤ v .descriptor
+  pub bodied : v .descriptor < v .body
+  pub ended : v .body ≤ v .end
+  pub within : v .end ≤ end
+
+pub data ItemIn (at end : ℕ) : Item → Type 0 where
+  a-marker : {a x y e : ℕ} → at < e → e ≤ end → ItemIn at end (marker a x y e)
+  a-value : {v : Spans} → ValueIn at end v → ItemIn at end (value v)
+  a-field : {id a : ℕ} {v : Spans} → ValueIn at end v → ItemIn at end (field id a v)
+
 pub data TileIn (at end : ℕ) : Tile → Type 0 where
   skip-in : {b e : ℕ} → at < b → b ≤ e → e ≤ end → TileIn at end (skip b e)
-  hand-in : {i : Item} → at < itemEnd i → itemEnd i ≤ end → TileIn at end (hand i)
+  hand-in : {i : Item} → ItemIn at end i → TileIn at end (hand i)
 
-marker-each : (s : List ℕ) (at end : ℕ) → at < end → Each (TileIn at end) (markerAt s at end)
+marker-each : (s : List ℕ) (at end : ℕ) → Each (TileIn at end) (markerAt s at end)
 unfolding markerAt
-marker-each s at end h =
+marker-each s at end =
     each-refuse (ltb (end - at) 4) 2 at (λ l.
     each-refuse (not (eqb (getD s (at + 3) 0) 234)) 21 at (λ _.
-    given (hand-in (omega arith) (omega (arith, ltb-false (end - at) 4 l)))))
+    given (hand-in (a-marker (omega arith) (omega (arith, ltb-false (end - at) 4 l))))))
 
-framed-each : (s : List ℕ) (at end : ℕ) → Each (TileIn at end) (framedAt s at end)
-unfolding framedAt
-framed-each s at end = each-then (frame-each s at end) (λ f i. tile f i)
-  where
-    tile : (f : Frame) → FrameIn at end f → Each (TileIn at end) (asTile f)
-    tile f (pad-in p) = given (skip-in (p .bodied) (p .ended) (p .within))
-    tile f (value-in {v} o) =
-        let l : at < v .end = omega (arith, o .annotated, o .described, o .bodied, o .ended) in given (hand-in {i = value v} l (o .within))
+-- of a frame that begins at `next`, after a field ID or after nothing
+framed-each : (at next end : ℕ) → at ≤ next → {f : Frame} → FrameIn next end f → (id : ℕ) → Each (TileIn at end) (asTile f) × Each (TileIn at end) (asField id at f)
+framed-each at next end h (pad-in {p} q) id =
+    let l : at < p .body = omega (arith, q .bodied) in
+    (given (skip-in l (q .ended) (q .within)), given (skip-in l (q .ended) (q .within)))
+framed-each at next end h (value-in {v} o) id =
+    let r : ValueIn at end v = record { low = omega (arith, o .annotated, o .described); bodied = o .bodied; ended = o .ended; within = o .within } in
+    (given (hand-in (a-value r)), given (hand-in (a-field r)))
 
-field-each : (s : List ℕ) (at end : ℕ) → Each (TileIn at end) (fieldAt s at end)
-unfolding fieldAt namedAt
-field-each s at end =
+tile-each : (rules : Rules) (s : List ℕ) (at end : ℕ) → Each (TileIn at end) (tileAt rules s at end)
+unfolding tileAt framedAt fieldAt namedAt
+tile-each Stream s at end =
+    each-pick (eqb (getD s at 0) 224) (λ _. marker-each s at end)
+    (λ _. each-then (frame-each s at end) (λ f i. framed-each at at end (omega arith) i 0 .0))
+tile-each Sequence s at end = each-then (frame-each s at end) (λ f i. framed-each at at end (omega arith) i 0 .0)
+tile-each Fields s at end =
     each-then (var-uint-bounded s at end) (λ u b.
-    each-refuse (eqb (u .next) end) 7 end (λ _. each-then (frame-each s (u .next) end) (λ f i. tile (u .value) (u .next) (b .begins) f i)))
-  where
-    tile : (id next : ℕ) → at < next → (f : Frame) → FrameIn next end f → Each (TileIn at end) (asField id at f)
-    tile id next h f (pad-in {p} q) = let l : at < p .body = omega (arith, q .bodied) in given (skip-in l (q .ended) (q .within))
-    tile id next h f (value-in {v} o) =
-        let l : at < v .end = omega (arith, o .annotated, o .described, o .bodied, o .ended) in
-        given (hand-in {i = field id at v} l (o .within))
+    each-refuse (eqb (u .next) end) 7 end (λ _.
+    each-then (frame-each s (u .next) end) (λ f i. framed-each at (u .next) end (omega (arith, b .begins)) i (u .value) .1)))
 
-pub tile-each : (rules : Rules) (s : List ℕ) (at end : ℕ) → at < end → Each (TileIn at end) (tileAt rules s at end)
-unfolding tileAt
-tile-each Stream s at end h =
-    each-pick (eqb (getD s at 0) 224) (λ _. marker-each s at end h) (λ _. framed-each s at end)
-tile-each Sequence s at end h = framed-each s at end
-tile-each Fields s at end h = field-each s at end
+pub tile-in : (rules : Rules) (s : List ℕ) (at end : ℕ) {t : Tile} → tileAt rules s at end ≡ gives t → TileIn at end t
+tile-in rules s at end q = each-of (tile-each rules s at end) q
+
+skip-told : {at end b e : ℕ} → TileIn at end (skip b e) → (at < b) × (b ≤ e) × (e ≤ end)
+skip-told (skip-in p q r) = (p, q, r)
+
+hand-told : {at end : ℕ} {i : Item} → TileIn at end (hand i) → ItemIn at end i
+hand-told (hand-in i) = i
+
+value-ends : {at end : ℕ} {v : Spans} → ValueIn at end v → (at < v .end) × (v .end ≤ end)
+value-ends v = (omega (arith, v .low, v .bodied, v .ended), v .within)
+
+pub in-ends : {at end : ℕ} {i : Item} → ItemIn at end i → (at < itemEnd i) × (itemEnd i ≤ end)
+in-ends (a-marker p q) = (p, q)
+in-ends (a-value v) = value-ends v
+in-ends (a-field v) = value-ends v
+
+pub pad-ends : (rules : Rules) (s : List ℕ) {at end b e : ℕ} → tileAt rules s at end ≡ gives (skip b e) → (at < b) × (b ≤ e) × (e ≤ end)
+pad-ends rules s {at} {end} q = skip-told (tile-in rules s at end q)
+
+pub item-in : (rules : Rules) (s : List ℕ) {at end : ℕ} {i : Item} → tileAt rules s at end ≡ gives (hand i) → ItemIn at end i
+item-in rules s {at} {end} q = hand-told (tile-in rules s at end q)
+
+-- in a part of the slice nothing is refused with 50
+frame-as-tile : (f : Frame) (id at : ℕ) → Proper (asTile f) × Proper (asField id at f)
+frame-as-tile (padding p) id at = (gave, gave)
+frame-as-tile (valued v) id at = (gave, gave)
+
+pub tile-proper : (rules : Rules) (s : List ℕ) (at end : ℕ) → at ≤ end → end ≤ length s → Proper (tileAt rules s at end)
+unfolding tileAt framedAt fieldAt namedAt markerAt
+tile-proper Stream s at end h k =
+    proper-pick (eqb (getD s at 0) 224)
+    (proper-refuse (ltb (end - at) 4) 2 at (λ e. omega arith) (λ _.
+    proper-refuse (not (eqb (getD s (at + 3) 0) 234)) 21 at (λ e. omega arith) (λ _. gave)))
+    (proper-then (frame-each s at end) (frame-proper s end k at h) (λ f i. frame-as-tile f 0 at .0))
+tile-proper Sequence s at end h k = proper-then (frame-each s at end) (frame-proper s end k at h) (λ f i. frame-as-tile f 0 at .0)
+tile-proper Fields s at end h k =
+    proper-then (var-uint-bounded s at end) (var-uint-proper s at end h k) (λ u b.
+    proper-refuse (eqb (u .next) end) 7 end (λ e. omega arith) (λ _.
+    proper-then (frame-each s (u .next) end) (frame-proper s end k (u .next) (b .ends)) (λ f i. frame-as-tile f (u .value) at .1)))

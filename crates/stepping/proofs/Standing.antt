@@ -22,6 +22,7 @@ use Rattle.stepping.specs.declared.cursor.Cursor.{Cursor}
 use Rattle.stepping.specs.declared.cursor.Rules.{Rules}
 use Rattle.stepping.specs.declared.cursor.Rules.the-variants.{Stream, Sequence, Fields}
 use Rattle.stepping.proofs.Walking.{Walks, at-end, at-pad, at-item, at-refusal, Finds, unfit, fit, finds}
+use Rattle.stepping.proofs.Places.{ValueIn, a-marker, a-value as value-in, a-field as field-in, TileIn, skip-in, hand-in, tile-in}
 use Rattle.stepping.proofs.Nest as nest
 use Rattle.stepping.proofs.Nest.{Place, From, stay, on, Nest, Under}
 
@@ -57,42 +58,18 @@ pub record Standing (s : List ℕ) (rules : Rules) (hi p : ℕ) (x : Place) : Ty
   pub place : x ≡ placeOf tile
 
 -- its body begins past p, and ends in the part
-pub record PlaceIn (at end : ℕ) (x : Place) : Type 0 where
-  pub bodied : at < x .body
-  pub ended : x .body ≤ x .end
-  pub within : x .end ≤ end
+value-in-place : {p hi : ℕ} {v : Spans} → ValueIn p hi v → (p < v .body) × (v .body ≤ v .end) × (v .end ≤ hi)
+value-in-place v = (omega (arith, v .low, v .bodied), v .ended, v .within)
 
-marker-place : (s : List ℕ) (at end : ℕ) → at < end → Each (λ t. PlaceIn at end (placeOf t)) (markerAt s at end)
-unfolding markerAt
-marker-place s at end h =
-    each-refuse (ltb (end - at) 4) 2 at (λ l.
-    each-refuse (not (eqb (getD s (at + 3) 0) 234)) 21 at (λ _.
-    given (record { bodied = omega arith; ended = omega arith; within = omega (arith, ltb-false (end - at) 4 l) })))
-
--- of a frame that begins at `next`, after a field ID or after nothing
-frame-place : (at next end : ℕ) → at ≤ next → {f : Frame} → FrameIn next end f → (id : ℕ) → Each (λ t. PlaceIn at end (placeOf t)) (asTile f) × Each (λ t. PlaceIn at end (placeOf t)) (asField id at f)
-frame-place at next end h (pad-in {p} q) id =
-    let r : PlaceIn at end (closedPlace (p .body) (p .end)) = record { bodied = omega (arith, q .bodied); ended = q .ended; within = q .within } in
-    (given r, given r)
-frame-place at next end h (value-in {v} o) id =
-    let r : PlaceIn at end (valuePlace v) = record { bodied = omega (arith, o .annotated, o .described, o .bodied); ended = o .ended; within = o .within } in
-    (given r, given r)
-
-pub place-each : (rules : Rules) (s : List ℕ) (at end : ℕ) → at < end → Each (λ t. PlaceIn at end (placeOf t)) (tileAt rules s at end)
-unfolding tileAt framedAt fieldAt namedAt
-place-each Stream s at end h =
-    each-pick (eqb (getD s at 0) 224) (λ _. marker-place s at end h)
-    (λ _. each-then (frame-each s at end) (λ f i. frame-place at at end (omega arith) i 0 .0))
-place-each Sequence s at end h = each-then (frame-each s at end) (λ f i. frame-place at at end (omega arith) i 0 .0)
-place-each Fields s at end h =
-    each-then (var-uint-bounded s at end) (λ u b.
-    each-refuse (eqb (u .next) end) 7 end (λ _.
-    each-then (frame-each s (u .next) end) (λ f i. frame-place at (u .next) end (omega (arith, b .begins)) i (u .value) .1)))
+in-place : {p hi : ℕ} {t : Tile} → TileIn p hi t → (p < placeOf t .body) × (placeOf t .body ≤ placeOf t .end) × (placeOf t .end ≤ hi)
+in-place (skip-in l m n) = (l, m, n)
+in-place (hand-in (a-marker l m)) = (l, omega arith, m)
+in-place (hand-in (value-in v)) = value-in-place v
+in-place (hand-in (field-in v)) = value-in-place v
 
 pub order : (s : List ℕ) (rules : Rules) (hi p : ℕ) (x : Place) → Standing s rules hi p x → (p < x .body) × (x .body ≤ x .end) × (x .end ≤ hi)
 order s rules hi p x t =
-    let i : PlaceIn p hi x = subst (PlaceIn p hi) (sym (t .place)) (each-of (place-each rules s p hi (t .before)) (t .is)) in
-    (i .bodied, i .ended, i .within)
+    subst (λ (y : Place). (p < y .body) × (y .body ≤ y .end) × (y .end ≤ hi)) (sym (t .place)) (in-place (tile-in rules s p hi (t .is)))
 
 pub one : (s : List ℕ) (rules : Rules) (hi p : ℕ) (x y : Place) → Standing s rules hi p x → Standing s rules hi p y → x ≡ y
 one s rules hi p x y t u =

@@ -13,7 +13,8 @@ use Rattle.stepping.specs.Runs.{cursor, Answers, Run, none, call, handed
 use Rattle.stepping.specs.Theorems.{Tiling, RunsExist}
 use Rattle.stepping.specs.declared.cursor.Cursor.{Cursor}
 use Rattle.stepping.specs.declared.cursor.Rules.{Rules}
-use Rattle.stepping.proofs.Walking.{Walks, at-end, at-pad, at-item, at-refusal, Finds, unfit, fit, finds, pad-ends, item-ends}
+use Rattle.stepping.proofs.Walking.{Walks, at-end, at-pad, at-item, at-refusal, Finds, unfit, fit, finds}
+use Rattle.stepping.proofs.Places.{pad-ends, in-ends, item-in}
 use Rattle.stepping.proofs.Spans.{pad-at, item-at}
 
 -- what an answer o from `at` adds in front of a tiling
@@ -45,10 +46,10 @@ module _ (rules : Rules) (s : List ℕ) (hi : ℕ) where
 
   adds : {at : ℕ} {f : Found} → hi ≤ length s → Walks rules s hi at f → Adds rules s hi at (f .answer)
   adds k at-end = ends empty
-  adds k (at-pad l h d) = let p = pad-ends rules s l h in past-pad (omega arith) (pad-at rules s l k h) (adds k d)
+  adds k (at-pad l h d) = let p = pad-ends rules s h in past-pad (omega arith) (pad-at rules s l k h) (adds k d)
   adds k (at-item l h) =
       let i = item-at rules s l k h in
-      let b = item-ends rules s l h in
+      let b = in-ends (item-in rules s h) in
       hands (no-end i) (b .0) (b .1) (λ is z x. item i x)
   adds k (at-refusal l h) = refuses-there
 

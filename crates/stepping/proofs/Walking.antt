@@ -10,25 +10,12 @@ use mathlib.Core.Logic.{_⊎_, inl, inr}
 use lib.ListN.{length}
 use lib.Dec.{ltb}
 use Rattle.numbers.specs.Outcome.{Outcome, gives, refuses, pick, andThen, outsideOf}
-use Rattle.numbers.proofs.Outcomes.{by-test, each-of, inside, inside-order, inside-end}
+use Rattle.numbers.proofs.Outcomes.{by-test, inside, inside-order, inside-end}
 use Rattle.stepping.specs.Answers.{Item, finish, itemEnd, Tile, skip, hand, tileAt, Pad, Found, passing, stop, onTile, walk, found, Stepped, after, stepOf}
 use Rattle.stepping.specs.Read.{handed}
 use Rattle.stepping.specs.declared.cursor.Cursor.{Cursor}
 use Rattle.stepping.specs.declared.cursor.Rules.{Rules}
-use Rattle.stepping.proofs.Places.{TileIn, skip-in, hand-in, tile-each}
-
--- where a pad's tile ends
-skip-told : {at end b e : ℕ} → TileIn at end (skip b e) → (at < b) × (b ≤ e) × (e ≤ end)
-skip-told (skip-in p q r) = (p, q, r)
-
-pub pad-ends : (rules : Rules) (s : List ℕ) {at end b e : ℕ} → at < end → tileAt rules s at end ≡ gives (skip b e) → (at < b) × (b ≤ e) × (e ≤ end)
-pad-ends rules s {at} {end} h q = skip-told (each-of (tile-each rules s at end h) q)
-
-hand-told : {at end : ℕ} {i : Item} → TileIn at end (hand i) → (at < itemEnd i) × (itemEnd i ≤ end)
-hand-told (hand-in p q) = (p, q)
-
-pub item-ends : (rules : Rules) (s : List ℕ) {at end : ℕ} {i : Item} → at < end → tileAt rules s at end ≡ gives (hand i) → (at < itemEnd i) × (itemEnd i ≤ end)
-item-ends rules s {at} {end} h q = hand-told (each-of (tile-each rules s at end h) q)
+use Rattle.stepping.proofs.Places.{pad-ends}
 
 -- from `at`, in the part of s that ends at hi, the step finds f
 pub data Walks (rules : Rules) (s : List ℕ) (hi : ℕ) : ℕ → Found → Type 0 where
@@ -51,7 +38,7 @@ module _ (rules : Rules) (s : List ℕ) (hi : ℕ) where
       (λ t. ended at (omega (arith, ltb-false at hi t)))
     where
       on-tile : (at : ℕ) → at < hi → ((e : ℕ) → at < e → e ≤ hi → Walks rules s hi e (walk k rules s hi e)) → (o : Outcome Tile) → tileAt rules s at hi ≡ o → Walks rules s hi at (onTile at (walk k rules s hi) o)
-      on-tile at l go (gives (skip b e)) h = let p = pad-ends rules s l h in at-pad l h (go e (omega arith) (p .2))
+      on-tile at l go (gives (skip b e)) h = let p = pad-ends rules s h in at-pad l h (go e (omega arith) (p .2))
       on-tile at l go (gives (hand i)) h = at-item l h
       on-tile at l go (refuses n p) h = at-refusal l h
 
@@ -62,7 +49,7 @@ module _ (rules : Rules) (s : List ℕ) (hi : ℕ) where
   walked at-end (suc k) f = simp (le-ltb hi hi (omega arith))
   walked (at-pad l h d) zero f = absurd (omega arith)
   walked (at-pad {at} {b} {e} l h d) (suc k) f =
-      let p = pad-ends rules s l h in
+      let p = pad-ends rules s h in
       simp (lt-ltb at hi l, h) (ap (passing (record { start = at; body = b; end = e })) (walked d k (omega arith)))
   walked (at-item l h) zero f = absurd (omega arith)
   walked (at-item {at} l h) (suc k) f = simp (lt-ltb at hi l, h)

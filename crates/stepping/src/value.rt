@@ -101,7 +101,8 @@ fn value_in(s: &[u8], start: usize, end: usize, at: usize) -> Framed
     read_value(s, at, end)
 }
 
-fn is_container(value: EncodedValue) -> bool
+// Whether a value is a list, a sexp or a struct, and not null.
+pub fn is_container(value: EncodedValue) -> bool
     ensures { λ r. ⌜ r ≡ isContainer (spansOf value) ⌝ }
 {
     if value.byte % 16 == 15 {

@@ -11,6 +11,7 @@ mod number_questions;
 mod scalar_questions;
 mod step_questions;
 mod text;
+mod walk_questions;
 
 use libc::STDOUT_FILENO;
 use text::Line;
@@ -60,13 +61,10 @@ fn answer(line: &[u8]) -> Line {
     if 0 < on_values.len {
         return on_values;
     }
+    if check::same(asked, b"walk") {
+        return walk_questions::walk(s, a, b);
+    }
     Line::new().word(b"no such question")
-}
-
-// Whether a question is on walks. The layer above answers those; here they are passed over, and count neither as agreeing
-// nor as differing.
-fn for_later(asked: &[u8]) -> bool {
-    check::same(asked, b"walk")
 }
 
 // Our answer to compare with the one expected. The oracle says a refusal of the part itself once, whatever the count of
@@ -84,9 +82,6 @@ fn compare(line: &[u8], tally: Tally) -> Tally {
         return tally;
     }
     if line[0] == b'#' {
-        return tally;
-    }
-    if for_later(text::word(line, 0)) {
         return tally;
     }
     let made = answer(line);

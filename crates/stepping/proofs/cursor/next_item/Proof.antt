@@ -10,7 +10,8 @@ use Rattle.numbers.specs.Outcome.{outsideOf, part}
 use Rattle.numbers.proofs.Outcomes.{inside-order, inside-end}
 use Rattle.stepping.specs.Answers.{Found, found, stop, stepOf}
 use Rattle.stepping.specs.Read.{itemRead, tileRead}
-use Rattle.stepping.proofs.Walking.{Walks, at-pad, ended, pad-ends, answered, step-is}
+use Rattle.stepping.proofs.Walking.{Walks, at-pad, ended, answered, step-is}
+use Rattle.stepping.proofs.Places.{pad-ends}
 use Rattle.stepping.specs.declared.cursor.Tile.the-variants.{Pad as TilePad}
 use Rattle.stepping.proofs.cursor.next_item.Statement.{statement}
 use Rattle.stepping.proofs.cursor.next_item.Tie as tie
@@ -33,7 +34,7 @@ in-part c =
 passed : (c : tie.After-read-tile Inv-loop μ-loop) {b e : ℕ} → c .read-tile .result ≡ TilePad b e → let a = c .before .before .before .before .before .before .args in (c .before .before .loop .at < b) × (b ≤ e) × (e ≤ a .cursor .end)
 passed c h =
     let a = c .before .before .before .before .before .before .args in
-    pad-ends (a .rules) (a .s .now) (c .before .loop-test .taken) (sym (c .read-tile .ensures) ∙ ap tileRead h)
+    pad-ends (a .rules) (a .s .now) (sym (c .read-tile .ensures) ∙ ap tileRead h)
 
 outside-requires : tie.Need-outside-requires Inv-loop μ-loop
 outside-requires c κs = search needs

@@ -1,0 +1,59 @@
+-- Lists stored in a buffer one after the other.
+-- Assumes nothing.
+use Prim.Native.Nat.{ℕ, zero, suc, _+_, _*_, _/_, _≤_, _<_}
+use native.Mathlib.Omega.{arith}
+use native.Mathlib.Nat.{add-zero}
+use native.Mathlib.Numerals.{add-one}
+use borrow.Author.Tests.{le-ltb}
+use mathlib.Core.Path.{_≡_, refl, _∙_, sym, ap}
+use mathlib.Core.List.{List, [], _∷_, _++_}
+use lib.ListN.{length, getD, set, drop, length-append}
+use lib.Seq.{sets, sets-eq, drop-cons}
+use Rattle.maps.specs.Buffer.{littleEndian, bytesOf, recordIn, numberOf, numberIn}
+use Rattle.numbers.specs.Outcome.{Outcome, gives, refuses}
+use Rattle.stepping.specs.Answers.{Item, finish, marker, value, field}
+use Rattle.stepping.specs.Words.{words}
+
+pub sets-append : (l : List ℕ) (i : ℕ) (a b : List ℕ) → sets l i (a ++ b) ≡ sets (sets l i a) (i + length a) b
+sets-append l i [] b = rw (add-zero i)
+sets-append l i (x ∷ a) b =
+    let e : suc i + length a ≡ i + length (x ∷ a) = omega arith in
+    sets-append (set l i x) (suc i) a b ∙ ap (λ (k : ℕ). sets (sets (set l i x) (suc i) a) k b) e
+
+pub length-little : (n x : ℕ) → length (littleEndian n x) ≡ n
+unfolding littleEndian
+length-little zero x = refl
+length-little (suc n) x = ap suc (length-little n (x / 256))
+
+length-bytes : (ws : List ℕ) → length (bytesOf ws) ≡ 8 * length ws
+length-bytes [] = refl
+length-bytes (w ∷ ws) =
+    length-append (littleEndian 8 w) (bytesOf ws) ∙ (let e : length (littleEndian 8 w) ≡ 8 = length-little 8 w in omega (arith, e, length-bytes ws))
+
+-- the first word stored, and those behind it
+pub sets-word : (l : List ℕ) (i w : ℕ) (ws : List ℕ) → sets (sets l i (littleEndian 8 w)) (i + 8) (bytesOf ws) ≡ sets l i (bytesOf (w ∷ ws))
+sets-word l i w ws =
+    sym (sets-append l i (littleEndian 8 w) (bytesOf ws) ∙ ap (λ (k : ℕ). sets (sets l i (littleEndian 8 w)) (i + k) (bytesOf ws)) (length-little 8 w))
+
+-- the next of some words stored, and those behind it
+pub next-word : (l ws : List ℕ) (at i : ℕ) → i < length ws → sets (sets l (at + i * 8) (littleEndian 8 (getD ws i 0))) (at + (i + 1) * 8) (bytesOf (drop (i + 1) ws)) ≡ sets l (at + i * 8) (bytesOf (drop i ws))
+next-word l ws at i h =
+    let e : at + (i + 1) * 8 ≡ at + i * 8 + 8 = omega arith in
+    rw (e, add-one i, drop-cons ws i 0 h) (sets-word l (at + i * 8) (getD ws i 0) (drop (suc i) ws))
+
+-- eight words stored at the buffer's start are the record
+pub record-is : (ws old : List ℕ) → length ws ≡ 8 → 64 ≤ length old → sets old 0 (bytesOf ws) ≡ recordIn ws old
+unfolding recordIn
+record-is ws old e h =
+    let n : length (bytesOf ws) ≡ 64 = omega (arith, length-bytes ws) in
+    let m : 0 + length (bytesOf ws) ≡ 64 = omega arith in
+    rw (le-ltb (length old) 64 h) (sets-eq (bytesOf ws) old 0 (omega arith) ∙ ap (λ (k : ℕ). bytesOf ws ++ drop k old) m)
+
+-- the number that the words of an answer tell
+pub number-is : (o : Outcome Item) → numberIn (words o) ≡ numberOf o
+unfolding numberIn
+number-is (gives (finish p)) = refl
+number-is (gives (marker a x y e)) = refl
+number-is (gives (value v)) = refl
+number-is (gives (field id a v)) = refl
+number-is (refuses n p) = refl

@@ -1,0 +1,234 @@
+// The walk of a whole map: markers and values in order, a container before what is in it, one step a call.
+ghost use mathlib.Core.Path.{_≡_};
+ghost use Prim.Native.Nat.{_≤_};
+ghost use Rattle.numbers.specs.Outcome.{refuses};
+ghost use Rattle.framing.specs.Read.{spansOf};
+ghost use Rattle.stepping.specs.Read.{itemRead};
+ghost use Rattle.maps.specs.Walk.{visit, answerAt};
+ghost use Rattle.maps.specs.Calls.{startOf, rulesAt, seek, movedTo, pastValue, past, visitOf, nextOf, walkedRead};
+ghost use Rattle.maps.specs.Private.{rulesBy, stateOf, seenRead};
+use framing::encoded_value::EncodedValue;
+use numbers::binary_buffer::outside;
+use numbers::refusal::OUTSIDE;
+use numbers::refusal::Refusal;
+use numbers::refusal::TOO_DEEP;
+use stepping::cursor::Cursor;
+use stepping::cursor::Item;
+use stepping::value::is_container;
+
+// The deepest part: a container in it is handed out and not entered.
+const DEEPEST: usize = 32;
+
+// Where a walk is: the ends of the parts that it is in, by depth; which of them are bodies of structs; its depth and its position. `deep`: the container at
+// the position was handed out and is too deep to enter.
+pub struct Walk {
+    pub ends: [usize; 33],
+    pub fields: [bool; 33],
+    pub depth: usize,
+    pub at: usize,
+    pub deep: bool,
+}
+
+// An answer, the depth at which it was met, and the state for the next call: the one given where the call is refused.
+pub struct Walked {
+    pub depth: usize,
+    pub item: Item,
+    pub next: Walk,
+}
+
+// What of a state is no array.
+struct Place {
+    depth: usize,
+    at: usize,
+    deep: bool,
+}
+
+// An answer and the depth at which it was met.
+struct Seen {
+    depth: usize,
+    item: Item,
+}
+
+// What the step at `at` in a part of this depth answers.
+fn step_at(s: &[u8], depth: usize, fields: bool, at: usize, end: usize) -> Item
+    ensures { λ r. ⌜ itemRead r ≡ answerAt (rulesBy depth fields) (now (s .entry)) at end ⌝ }
+{
+    let cursor = Cursor { at, end };
+    if depth == 0 {
+        let step = cursor.next_in_stream(s);
+        return step.item;
+    }
+    if fields {
+        let step = cursor.next_in_struct(s);
+        return step.item;
+    }
+    let step = cursor.next_in_sequence(s);
+    step.item
+}
+
+// The next answer from `at` in the part of this depth on, in the parts above where this one ends.
+fn find(s: &[u8], ends: &[usize; 33], fields: &[bool; 33], place: Place) -> Seen
+    requires { ⌜ place .depth ≤ 32 ⌝ }
+    ensures { λ r. ⌜ seenRead r ≡ seek (now (s .entry)) (stateOf (now (ends .entry)) (now (fields .entry)) place) (place .depth) (place .at) ⌝ }
+{
+    let mut depth = place.depth;
+    let mut at = place.at;
+    loop {
+        let item = step_at(s, depth, fields[depth], at, ends[depth]);
+        if depth == 0 {
+            return Seen { depth, item };
+        }
+        match item {
+            Item::End { position } => {
+                depth = depth - 1;
+                at = position;
+            }
+            _ => {
+                return Seen { depth, item };
+            }
+        }
+    }
+}
+
+// The place behind a value that was handed out at this depth: in its body, if it is a container.
+fn pass_value(
+    ends: &mut [usize; 33],
+    fields: &mut [bool; 33],
+    place: Place,
+    depth: usize,
+    value: EncodedValue,
+) -> Place
+    requires { ⌜ depth ≤ 32 ⌝ }
+    ensures { λ r. ⌜ stateOf (now (ends .exit)) (now (fields .exit)) r ≡ pastValue (stateOf (now (ends .entry)) (now (fields .entry)) place) depth (spansOf value) ⌝ }
+{
+    if !is_container(value) {
+        return Place {
+            depth,
+            at: value.end,
+            deep: false,
+        };
+    }
+    if depth == DEEPEST {
+        return Place {
+            depth,
+            at: value.descriptor,
+            deep: true,
+        };
+    }
+    let inner = depth + 1;
+    ends[inner] = value.end;
+    fields[inner] = value.byte / 16 == 13;
+    Place {
+        depth: inner,
+        at: value.body,
+        deep: false,
+    }
+}
+
+// The place behind an answer.
+fn pass_item(
+    ends: &mut [usize; 33],
+    fields: &mut [bool; 33],
+    place: Place,
+    depth: usize,
+    item: Item,
+) -> Place
+    requires { ⌜ depth ≤ 32 ⌝ }
+    ensures { λ r. ⌜ stateOf (now (ends .exit)) (now (fields .exit)) r ≡ past (stateOf (now (ends .entry)) (now (fields .entry)) place) (visit depth (itemRead item)) ⌝ }
+{
+    match item {
+        Item::End { position } => Place {
+            depth,
+            at: position,
+            deep: false,
+        },
+        Item::Marker {
+            start: _,
+            major: _,
+            minor: _,
+            end,
+        } => Place {
+            depth,
+            at: end,
+            deep: false,
+        },
+        Item::Value(value) => pass_value(ends, fields, place, depth, value),
+        Item::Field {
+            id: _,
+            start: _,
+            value,
+        } => pass_value(ends, fields, place, depth, value),
+        Item::Refused(_) => place,
+    }
+}
+
+fn refused(depth: usize, number: u64, position: usize) -> Seen
+    ensures { λ r. ⌜ seenRead r ≡ visit depth (refuses number position) ⌝ }
+{
+    Seen {
+        depth,
+        item: Item::Refused(Refusal { number, position }),
+    }
+}
+
+// The answer at a place.
+fn look(s: &[u8], ends: &[usize; 33], fields: &[bool; 33], place: Place) -> Seen
+    ensures { λ r. ⌜ seenRead r ≡ visitOf (now (s .entry)) (stateOf (now (ends .entry)) (now (fields .entry)) place) ⌝ }
+{
+    let depth = place.depth;
+    if DEEPEST < depth {
+        return refused(0, OUTSIDE, 0);
+    }
+    if place.deep {
+        if outside(s, place.at, ends[depth]) {
+            return refused(0, OUTSIDE, 0);
+        }
+        return refused(depth, TOO_DEEP, place.at);
+    }
+    find(s, ends, fields, place)
+}
+
+impl Walk {
+    // The walk of a map from its start.
+    pub fn start(s: &[u8]) -> Self
+        ensures { λ r. ⌜ r ≡ startOf (now (s .entry)) ⌝ }
+    {
+        let mut ends = [0; 33];
+        ends[0] = s.len();
+        let fields = [false; 33];
+        Walk {
+            ends,
+            fields,
+            depth: 0,
+            at: 0,
+            deep: false,
+        }
+    }
+
+    // The next answer of the walk.
+    pub fn next(self, s: &[u8]) -> Walked
+        ensures { λ r. ⌜ walkedRead r ≡ nextOf (now (s .entry)) self ⌝ }
+    {
+        let mut ends = self.ends;
+        let mut fields = self.fields;
+        let place = Place {
+            depth: self.depth,
+            at: self.at,
+            deep: self.deep,
+        };
+        let seen = look(s, &ends, &fields, place);
+        let item = seen.item;
+        let left = pass_item(&mut ends, &mut fields, place, seen.depth, item);
+        Walked {
+            depth: seen.depth,
+            item,
+            next: Walk {
+                ends,
+                fields,
+                depth: left.depth,
+                at: left.at,
+                deep: left.deep,
+            },
+        }
+    }
+}

@@ -1,0 +1,94 @@
+// The answers to questions on the walk of a part that is taken as a stream.
+use crate::frame_questions::joined;
+use crate::text::Line;
+use framing::encoded_value::EncodedValue;
+use maps::walk::Walk;
+use stepping::cursor::Item;
+
+fn type_word(line: Line, code: u8) -> Line {
+    match code {
+        0 => line.word(b"null"),
+        1 => line.word(b"bool"),
+        2 | 3 => line.word(b"int"),
+        4 => line.word(b"float"),
+        5 => line.word(b"decimal"),
+        6 => line.word(b"timestamp"),
+        7 => line.word(b"symbol"),
+        8 => line.word(b"string"),
+        9 => line.word(b"clob"),
+        10 => line.word(b"blob"),
+        11 => line.word(b"list"),
+        12 => line.word(b"sexp"),
+        _ => line.word(b"struct"),
+    }
+}
+
+fn value(line: Line, depth: usize, start: usize, value: EncodedValue) -> Line {
+    type_word(line.position(depth), value.byte / 16)
+        .position(start)
+        .position(value.descriptor)
+        .position(value.body)
+        .position(value.end)
+}
+
+fn visited(line: Line, depth: usize, item: Item) -> Line {
+    match item {
+        Item::End { position } => line.word(b"end").position(position),
+        Item::Marker {
+            start,
+            major: _,
+            minor: _,
+            end,
+        } => line.position(depth)
+            .word(b"marker")
+            .position(start)
+            .position(start)
+            .position(end)
+            .position(end),
+        Item::Value(found) => value(line, depth, found.start, found),
+        Item::Field {
+            id: _,
+            start,
+            value: found,
+        } => value(line, depth, start, found),
+        Item::Refused(refusal) => line.word(b"refused")
+            .number(refusal.number)
+            .position(refusal.position),
+    }
+}
+
+fn is_last(item: Item) -> bool {
+    match item {
+        Item::End { position: _ } => true,
+        Item::Refused(_) => true,
+        _ => false,
+    }
+}
+
+// `walk BYTES AT END`: what the walk of AT..END hands out, to its end or the first refusal.
+pub fn walk(s: &[u8], at: usize, end: usize) -> Line {
+    let mut line = Line::new();
+    let mut ends = [0usize; 33];
+    ends[0] = end;
+    let fields = [false; 33];
+    let mut state = Walk {
+        ends,
+        fields,
+        depth: 0,
+        at,
+        deep: false,
+    };
+    let most = s.len() + 1;
+    let mut i = 0;
+    while i < most {
+        let walked = state.next(s);
+        let item = walked.item;
+        line = visited(joined(line), walked.depth, item);
+        if is_last(item) {
+            return line;
+        }
+        state = walked.next;
+        i += 1;
+    }
+    line
+}

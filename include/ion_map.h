@@ -1,0 +1,200 @@
+/* Reads maps in the Ion 1.0 binary encoding: which bytes are which marker, value or field.
+
+   Link with libmaps.a. The library keeps nothing between calls and takes no memory from the heap, so calls
+   may run at the same time as long as no two write to one buffer.
+
+   A map is any bytes, good or bad. Positions are counted from the map's first byte, 0. A span a..b holds a
+   and not b, so its length is b - a and the next thing begins at b.
+
+   Every function takes any numbers and any bytes. It answers with a record or with a numbered refusal; it
+   never reads outside the map and never writes outside the record. What it can't test are the pointers:
+   `map` must point to map_len bytes and `out` to out_len bytes, neither is null, also where a length is 0,
+   and the two don't overlap.
+
+   The header is for C99 and C++, on machines whose size_t has 64 bits. */
+
+#ifndef ION_MAP_H
+#define ION_MAP_H
+
+#include <stddef.h>
+#include <stdint.h>
+
+/* A record is eight words of 64 bits, each with its least significant byte first on every machine.
+   ion_map_word reads one. A buffer may be longer; its further bytes are left as they are. */
+enum {
+    ION_MAP_RECORD_SIZE = 64,
+    ION_MAP_RECORD_WORDS = 8
+};
+
+/* What a part of a map is: the argument `kind` of the step. */
+enum {
+    ION_MAP_PART_STREAM = 0,   /* the whole map, or a part taken as one */
+    ION_MAP_PART_SEQUENCE = 1, /* the body of a list or a sexp */
+    ION_MAP_PART_STRUCT = 2    /* the body of a struct: every item has a field ID */
+};
+
+/* Word 0 of every record: which kind of record it is. */
+enum {
+    ION_MAP_WORD_KIND = 0
+};
+
+enum {
+    ION_MAP_KIND_END = 0,     /* nothing is left in the part */
+    ION_MAP_KIND_MARKER = 1,  /* a version marker; only in a stream */
+    ION_MAP_KIND_VALUE = 2,   /* a value of a stream or a sequence */
+    ION_MAP_KIND_FIELD = 3,   /* a value of a struct, with its field ID */
+    ION_MAP_KIND_REFUSED = 9  /* no answer; the record says why and where */
+};
+
+/* Words 1 to 7 of a value or a field. Its bytes lie in this order:
+   field ID (in a struct), wrapper and annotations (if any), descriptor, length (if any), body. */
+enum {
+    ION_MAP_VALUE_BYTE = 1,        /* its own descriptor byte, never the wrapper's: type and whether it is null */
+    ION_MAP_VALUE_START = 2,       /* its first byte: of the field ID, else of the wrapper, else the descriptor */
+    ION_MAP_VALUE_ANNOTATIONS = 3, /* the annotations' first byte; they end at the descriptor, and where there
+                                      are none this word and the next are equal */
+    ION_MAP_VALUE_DESCRIPTOR = 4,  /* the descriptor's position */
+    ION_MAP_VALUE_BODY = 5,        /* the body's first byte */
+    ION_MAP_VALUE_END = 6,         /* where body and value end: the position for the next step */
+    ION_MAP_VALUE_FIELD_ID = 7     /* the field ID, a symbol's ID; 0 for a value */
+};
+
+/* Words 1 to 7 of a marker. */
+enum {
+    ION_MAP_MARKER_BYTE = 1,  /* 224, which is E0 */
+    ION_MAP_MARKER_START = 2, /* its first byte */
+    ION_MAP_MARKER_MAJOR = 3, /* the version's two numbers, whatever they are: 1 and 0 for Ion 1.0 */
+    ION_MAP_MARKER_MINOR = 4,
+    ION_MAP_MARKER_BODY = 5,  /* the same as its end: a marker has no body */
+    ION_MAP_MARKER_END = 6    /* where it ends: the position for the next step */
+};
+
+/* Words 1 to 7 of an end: the position in word 2 is the part's end, the others are 0. */
+enum {
+    ION_MAP_END_POSITION = 2
+};
+
+/* Words 1 to 7 of a refusal: its number, its position in the map, and zeros. */
+enum {
+    ION_MAP_REFUSED_NUMBER = 1,
+    ION_MAP_REFUSED_POSITION = 2
+};
+
+/* Types: the high four bits of a value's descriptor byte, which ion_map_type gives. */
+enum {
+    ION_MAP_TYPE_NULL = 0,
+    ION_MAP_TYPE_BOOL = 1,
+    ION_MAP_TYPE_INT = 2,          /* zero and above */
+    ION_MAP_TYPE_NEGATIVE_INT = 3, /* below zero; the same type in Ion */
+    ION_MAP_TYPE_FLOAT = 4,
+    ION_MAP_TYPE_DECIMAL = 5,
+    ION_MAP_TYPE_TIMESTAMP = 6,
+    ION_MAP_TYPE_SYMBOL = 7,
+    ION_MAP_TYPE_STRING = 8,
+    ION_MAP_TYPE_CLOB = 9,
+    ION_MAP_TYPE_BLOB = 10,
+    ION_MAP_TYPE_LIST = 11,
+    ION_MAP_TYPE_SEXP = 12,
+    ION_MAP_TYPE_STRUCT = 13
+};
+
+/* Refusals: the number that a function returns, and word 1 of its record. After the dash stands what the
+   position is. */
+enum {
+    /* The bytes were cut short: more of them may help, unless a length inside the map is wrong. */
+    ION_MAP_REFUSAL_NO_VALUE_LEFT = 1,         /* nothing after annotations - there */
+    ION_MAP_REFUSAL_MARKER_CUT = 2,            /* a marker under 4 bytes - its start */
+    ION_MAP_REFUSAL_VAR_UINT_CUT = 3,          /* a length or an ID without a last byte - the end of the part */
+    ION_MAP_REFUSAL_ANNOTATIONS_CUT = 5,       /* annotations that run past the part - after their length */
+    ION_MAP_REFUSAL_PAD_CUT = 6,               /* a pad that runs past the part - after its length */
+    ION_MAP_REFUSAL_FIELD_CUT = 7,             /* a field ID with nothing after it - there */
+    ION_MAP_REFUSAL_VALUE_CUT = 8,             /* a value that runs past the part - its descriptor */
+
+    /* The bytes were written wrong. */
+    ION_MAP_REFUSAL_NUMBER_TOO_LONG = 20,      /* a length or an ID of over 9 bytes - its first byte */
+    ION_MAP_REFUSAL_BAD_MARKER = 21,           /* a marker that doesn't end in EA - its start */
+    ION_MAP_REFUSAL_NOT_A_VALUE = 22,          /* a byte that begins no value, or E0 outside a stream - that byte */
+    ION_MAP_REFUSAL_NO_ANNOTATIONS = 23,       /* an annotations' length of 0 - the wrapper */
+    ION_MAP_REFUSAL_ANNOTATIONS_TOO_LONG = 24, /* annotations longer than their wrapper - the wrapper */
+    ION_MAP_REFUSAL_NO_ROOM_FOR_VALUE = 25,    /* a wrapper with no room for a value - the wrapper */
+    ION_MAP_REFUSAL_TOO_MANY_ANNOTATIONS = 26, /* annotations of over 255 bytes - the wrapper */
+    ION_MAP_REFUSAL_WRAPPER_IN_WRAPPER = 27,   /* a wrapper in a wrapper - the inner one */
+    ION_MAP_REFUSAL_PAD_IN_WRAPPER = 28,       /* a pad in a wrapper - the pad */
+    ION_MAP_REFUSAL_WRAPPED_LENGTH_DIFFERS = 29, /* a value that doesn't end where its wrapper does - the wrapper */
+    ION_MAP_REFUSAL_BAD_FLOAT_LENGTH = 30,     /* a float's length code other than 0, 4, 8, 15 - its descriptor */
+    ION_MAP_REFUSAL_TIMESTAMP_TOO_SHORT = 31,  /* a timestamp under 2 bytes, not null - its descriptor */
+    ION_MAP_REFUSAL_EMPTY_ORDERED_STRUCT = 32, /* an ordered struct without a body - its descriptor */
+
+    /* The caller's own. */
+    ION_MAP_REFUSAL_TOO_DEEP = 37,             /* a walk's: a container at depth 32 - its descriptor */
+    ION_MAP_REFUSAL_OUTSIDE = 50,              /* not start <= position <= end <= map_len, or kind above 2 - 0 */
+    ION_MAP_REFUSAL_RECORD_TOO_SHORT = 51,     /* out_len under 64; nothing is written - 0 */
+    ION_MAP_REFUSAL_INPUT_TOO_LONG = 54        /* a walk's: more bytes than it takes - the most that it takes */
+};
+
+/* Word i of a record, 0 to 7. */
+static inline uint64_t ion_map_word(const uint8_t *record, size_t i)
+{
+    uint64_t word = 0;
+    size_t byte;
+
+    for (byte = 8; byte > 0; byte--) {
+        word = word << 8 | record[8 * i + byte - 1];
+    }
+    return word;
+}
+
+/* The type that a value's descriptor byte says. */
+static inline unsigned ion_map_type(uint64_t byte)
+{
+    return (unsigned)(byte >> 4 & 15);
+}
+
+/* Whether a value is a null, of whichever type. */
+static inline int ion_map_is_null(uint64_t byte)
+{
+    return (byte & 15) == 15;
+}
+
+/* Whether a value can be stepped into: a list, a sexp or a struct that isn't null. Its body, which may be
+   empty, is then a part for further steps. */
+static inline int ion_map_is_container(uint64_t byte)
+{
+    unsigned type = ion_map_type(byte);
+
+    return ION_MAP_TYPE_LIST <= type && type <= ION_MAP_TYPE_STRUCT && !ion_map_is_null(byte);
+}
+
+/* What the body of a container is, for the argument `kind`. */
+static inline uint64_t ion_map_body_kind(uint64_t byte)
+{
+    return ion_map_type(byte) == ION_MAP_TYPE_STRUCT ? ION_MAP_PART_STRUCT : ION_MAP_PART_SEQUENCE;
+}
+
+#ifdef __cplusplus
+extern "C" {
+#endif
+
+/* One step through a part of a map: passes the pads at `position` and hands out the marker, value or field
+   after them, or says that the part has ended.
+
+     map, map_len  the whole map, also where the part is smaller
+     start, end    the part: 0 and map_len for the stream, words BODY and END of a container for its body
+     position      where to go on: `start` at first, then word END of the record before
+     kind          what the part is, ION_MAP_PART_...
+     out, out_len  the record, at least 64 bytes
+
+   Returns 0, or the number of the refusal that the record holds. With 51 there is no record. Record kinds
+   are END, MARKER, VALUE, FIELD and REFUSED.
+
+   The same call gives the same answer: stepping on after an end says end, and a refused step stays refused.
+   A container is handed out whole, and what is in it is read only by steps through its body. Of a value's
+   body and of annotations nothing is read here, so a value that is handed out may still be a bad one. */
+uint64_t ion_map_step(const uint8_t *map, size_t map_len, size_t start, size_t end, size_t position,
+                      uint64_t kind, uint8_t *out, size_t out_len);
+
+#ifdef __cplusplus
+}
+#endif
+
+#endif
