@@ -8,8 +8,8 @@
 
    Every function takes any numbers and any bytes. It answers with a record or with a numbered refusal; it
    never reads outside the map and never writes outside the record. What it can't test are the pointers:
-   `map` must point to map_len bytes and `out` to out_len bytes, neither is null, also where a length is 0,
-   and the two don't overlap.
+   `map` must point to map_len bytes and `out` to out_len bytes, none is null, also where a length is 0, and
+   what is written overlaps nothing else.
 
    The header is for C99 and C++, on machines whose size_t has 64 bits. */
 
@@ -18,6 +18,8 @@
 
 #include <stddef.h>
 #include <stdint.h>
+
+/* ======================================= Part 1: the step ======================================= */
 
 /* A record is eight words of 64 bits, each with its least significant byte first on every machine.
    ion_map_word reads one. A buffer may be longer; its further bytes are left as they are. */
@@ -196,5 +198,131 @@ uint64_t ion_map_step(const uint8_t *map, size_t map_len, size_t start, size_t e
 #ifdef __cplusplus
 }
 #endif
+
+/* ==================== Part 2: annotations, stepping in, scalars, numbers, many steps ==================== */
+
+/* Kinds of the records of part 2, beside ION_MAP_KIND_END and ION_MAP_KIND_REFUSED. */
+enum {
+    ION_MAP_KIND_ANNOTATION = 5,
+    ION_MAP_KIND_BODY = 6,
+    ION_MAP_KIND_SCALAR = 7,
+    ION_MAP_KIND_NUMBER = 8
+};
+
+/* Words of an annotation; words 1, 4, 5 and 7 are 0. */
+enum {
+    ION_MAP_ANNOTATION_START = 2, /* the first byte of the ID */
+    ION_MAP_ANNOTATION_ID = 3,    /* the ID, a symbol's */
+    ION_MAP_ANNOTATION_END = 6    /* where its bytes end: the position for the next call */
+};
+
+/* Words of a body that was stepped into; words 3, 4 and 7 are 0. */
+enum {
+    ION_MAP_BODY_PART = 1,       /* ION_MAP_PART_SEQUENCE or ION_MAP_PART_STRUCT */
+    ION_MAP_BODY_DESCRIPTOR = 2, /* the container's descriptor's position */
+    ION_MAP_BODY_START = 5,      /* the body */
+    ION_MAP_BODY_END = 6
+};
+
+/* Words of a scalar; word 7 is 0. */
+enum {
+    ION_MAP_SCALAR_BYTE = 1,       /* its descriptor byte, which has a null's type */
+    ION_MAP_SCALAR_DESCRIPTOR = 2, /* the descriptor's position */
+    ION_MAP_SCALAR_WHAT = 3,       /* what it is, ION_MAP_WHAT_... */
+    ION_MAP_SCALAR_NUMBER = 4,     /* of a bool, int, float or symbol, as said below; else 0 */
+    ION_MAP_SCALAR_START = 5,      /* its part of the map; start and end are equal where it has none */
+    ION_MAP_SCALAR_END = 6
+};
+
+/* Word 3 of a scalar. */
+enum {
+    ION_MAP_WHAT_NULL = 0,
+    ION_MAP_WHAT_BOOL = 1,      /* number: 0 or 1 */
+    ION_MAP_WHAT_INT = 2,       /* number: 1 where negative; part: the magnitude, most significant byte first,
+                                   without leading zero bytes, so that zero has none */
+    ION_MAP_WHAT_FLOAT = 3,     /* number: the 64 bits of a double, also where the map has 32 or none */
+    ION_MAP_WHAT_DECIMAL = 4,   /* part: its body */
+    ION_MAP_WHAT_TIMESTAMP = 5, /* part: its body */
+    ION_MAP_WHAT_SYMBOL = 6,    /* number: its ID */
+    ION_MAP_WHAT_STRING = 7,    /* part: its text, which is UTF-8 and has no final zero */
+    ION_MAP_WHAT_CLOB = 8,      /* part: its bytes */
+    ION_MAP_WHAT_BLOB = 9,      /* part: its bytes */
+    ION_MAP_WHAT_CONTAINER = 10 /* a list, sexp or struct that isn't null: step in */
+};
+
+/* Forms of a number: the argument `form` of ion_map_number. */
+enum {
+    ION_MAP_FORM_VAR_UINT = 0,
+    ION_MAP_FORM_VAR_INT = 1,
+    ION_MAP_FORM_INT = 2
+};
+
+/* Words of a number; words 4 and 7 are 0. */
+enum {
+    ION_MAP_NUMBER_NEGATIVE = 1, /* 1 where the sign is negative, also of a negative zero */
+    ION_MAP_NUMBER_POSITION = 2, /* its first byte */
+    ION_MAP_NUMBER_VALUE = 3,    /* a VarUInt's value, a VarInt's magnitude, the low seven bits of an Int's
+                                    first byte */
+    ION_MAP_NUMBER_REST = 5,     /* the first of an Int's further bytes, which belong to its magnitude and go
+                                    to its end; of the other forms the end */
+    ION_MAP_NUMBER_END = 6       /* where it ends */
+};
+
+/* Refusals that only the functions of part 2 give, beside those of part 1. */
+enum {
+    ION_MAP_REFUSAL_VAR_INT_CUT = 4,        /* a VarInt without a last byte - the end of the part */
+    ION_MAP_REFUSAL_INT_CUT = 9,            /* an Int that runs past the part - its start */
+    ION_MAP_REFUSAL_BAD_BOOL = 33,          /* a bool's code 2 to 14 - its descriptor */
+    ION_MAP_REFUSAL_NEGATIVE_ZERO_INT = 34, /* a negative int of zero - its descriptor */
+    ION_MAP_REFUSAL_SYMBOL_TOO_LONG = 35,   /* a symbol of over 8 bytes - its descriptor */
+    ION_MAP_REFUSAL_BAD_UTF8 = 36,          /* a string that isn't UTF-8 - its descriptor */
+    ION_MAP_REFUSAL_NOT_A_CONTAINER = 52    /* stepping into a scalar or a null - its descriptor */
+};
+
+#ifdef __cplusplus
+extern "C" {
+#endif
+
+/* All functions of part 2 that take `out` return 0 or the number of the refusal that the record holds; with
+   51 nothing is written. */
+
+/* The next annotation of a value. The part is words ANNOTATIONS and DESCRIPTOR of the value's record; go on
+   from `start` at first, then from word END of the record before. Record kinds: ANNOTATION, END, REFUSED. */
+uint64_t ion_map_annotation(const uint8_t *map, size_t map_len, size_t start, size_t end, size_t position,
+                            uint8_t *out, size_t out_len);
+
+/* The body of the container at `position`, which is its descriptor's (word DESCRIPTOR of its record) or its
+   wrapper's. The part start..end is the one that handed it out. The value is looked at afresh, with the
+   refusals of the step, 1 also where `position` is the part's end and 22 also at a pad. Record kinds: BODY,
+   REFUSED. */
+uint64_t ion_map_step_in(const uint8_t *map, size_t map_len, size_t start, size_t end, size_t position,
+                         uint8_t *out, size_t out_len);
+
+/* Reads the scalar at `position`; the arguments are those of ion_map_step_in. Record kinds: SCALAR, REFUSED. */
+uint64_t ion_map_scalar(const uint8_t *map, size_t map_len, size_t start, size_t end, size_t position,
+                        uint8_t *out, size_t out_len);
+
+/* As many steps as there is room for: the records of ion_map_step one after the other, 64 bytes each, the
+   last being an end or a refusal where one is met. *count is how many there are, 0 with 51. Where the last
+   one is neither, go on from its word END. Returns 0, or the number of the refusal in the last record. */
+uint64_t ion_map_steps(const uint8_t *map, size_t map_len, size_t start, size_t end, size_t position,
+                       uint64_t kind, uint8_t *out, size_t out_len, uint64_t *count);
+
+/* How many markers and values a walk of the whole map meets, those in containers included, up to its end or
+   its first refusal and at most `most`. A container at depth 32 is counted and not entered: the walk ends
+   there. Fewer than `most` doesn't say which of these it was. */
+uint64_t ion_map_walked(const uint8_t *map, size_t map_len, uint64_t most);
+
+/* Reads the number at `position` of the part start..end. `form` is ION_MAP_FORM_..., and 50 is returned for
+   any other; an Int has `length` bytes, and the other forms take no notice of `length`. Record kinds: NUMBER,
+   REFUSED. */
+uint64_t ion_map_number(const uint8_t *map, size_t map_len, size_t start, size_t end, size_t position,
+                        uint64_t form, size_t length, uint8_t *out, size_t out_len);
+
+#ifdef __cplusplus
+}
+#endif
+
+/* ======================================= End of part 2 ======================================= */
 
 #endif

@@ -70,6 +70,61 @@ fn main() {
         root.push_str(&format!("#[path = {path:?}]\npub mod {module};\n"));
     }
     fs::write(out.join("root.rs"), root).unwrap();
+
+    for program in ["compare", "fuzz"] {
+        if env::var_os(format!("CARGO_FEATURE_{}", program.to_uppercase())).is_some() {
+            link_reader(&here, &out, program);
+        }
+    }
+}
+
+/// The functions that the comparison calls.
+const EXPORTS: [&str; 7] = [
+    "ion_map_step",
+    "ion_map_steps",
+    "ion_map_annotation",
+    "ion_map_step_in",
+    "ion_map_scalar",
+    "ion_map_number",
+    "ion_map_walked",
+];
+
+/// Links a program with our reader, and the fuzzer's with libFuzzer.
+fn link_reader(here: &Path, out: &Path, program: &str) {
+    let given = match env::var_os("LIBMAPS") {
+        Some(archive) => PathBuf::from(archive),
+        None => here.join("../target/staticlib/libmaps.a"),
+    };
+    let archive = fs::read(&given).unwrap_or_else(|error| panic!("{}: {error}", given.display()));
+    fs::write(out.join("missing.rs"), missing(&archive)).unwrap();
+    println!("cargo:rerun-if-env-changed=LIBMAPS");
+    println!("cargo:rerun-if-changed={}", given.display());
+    println!("cargo:rustc-link-arg-bin={program}={}", given.display());
+    if program == "fuzz" {
+        let fuzzer = env::var("LIBFUZZER").expect("LIBFUZZER names libFuzzer's archive");
+        println!("cargo:rerun-if-env-changed=LIBFUZZER");
+        println!("cargo:rustc-link-arg-bin=fuzz={fuzzer}");
+        println!("cargo:rustc-link-arg-bin=fuzz=-lstdc++");
+    }
+}
+
+/// Functions in the places of those that an archive hasn't got, so that the others can be compared.
+/// The comparison names them, doesn't call them, and fails at its end.
+fn missing(archive: &[u8]) -> String {
+    let is_missing = |name: &&&str| {
+        let symbol = format!("{name}\0");
+        !archive
+            .windows(symbol.len())
+            .any(|bytes| bytes == symbol.as_bytes())
+    };
+    let missing: Vec<&&str> = EXPORTS.iter().filter(is_missing).collect();
+    let mut text = format!("pub const MISSING: &[&str] = &{missing:?};\n");
+    for name in missing {
+        text.push_str(&format!(
+            "#[no_mangle]\nextern \"C\" fn {name}() -> u64 {{\n    u64::MAX\n}}\n"
+        ));
+    }
+    text
 }
 
 fn place(path: &Path, bytes: &[u8]) {

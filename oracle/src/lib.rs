@@ -38,6 +38,7 @@ pub mod v1_0 {
     pub use crate::lazy::encoding::BinaryEncoding_1_0 as Binary;
 }
 
+pub mod asking;
 pub mod harness;
 pub mod refusals;
 

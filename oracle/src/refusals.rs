@@ -1,6 +1,7 @@
 //! The scope paper's numbers for the Rust's messages: the one table from message to number.
 
 use crate::IonError;
+use std::fmt::{self, Write as _};
 
 /// Labels of the Rust's `Incomplete` errors. Their position is the Rust's own.
 const INCOMPLETE: &[(&str, u32)] = &[
@@ -60,7 +61,10 @@ const DECODING: &[(&str, u32)] = &[
 /// The number of a refusal, and its position where the Rust has one. A message that is not in the
 /// tables ends the program: an answer with a made-up number would be worse than none.
 pub fn number(error: &IonError) -> (u32, Option<usize>) {
-    let text = error.to_string();
+    let mut message = Message::default();
+    // A message longer than the room is cut; the tables' entries are shorter.
+    let _ = write!(message, "{error}");
+    let text = message.text();
     match error {
         IonError::Incomplete(incomplete) => {
             let position = incomplete.position().byte_offset;
@@ -75,13 +79,44 @@ pub fn number(error: &IonError) -> (u32, Option<usize>) {
             let found = DECODING
                 .iter()
                 .find(|(known, _)| match known.strip_suffix('*') {
-                    Some("Found a ") => is_long_var_int(&text),
+                    Some("Found a ") => is_long_var_int(text),
                     Some(start) => text.starts_with(start),
                     None => text == *known,
                 });
             (found.unwrap_or_else(|| unknown(error)).1, None)
         }
         _ => unknown(error),
+    }
+}
+
+/// Room for a message without an allocation: refusals are most of the answers of a comparison.
+struct Message {
+    bytes: [u8; 160],
+    length: usize,
+}
+
+impl Default for Message {
+    fn default() -> Self {
+        Message {
+            bytes: [0; 160],
+            length: 0,
+        }
+    }
+}
+
+impl Message {
+    fn text(&self) -> &str {
+        std::str::from_utf8(&self.bytes[..self.length]).expect("whole pieces of text")
+    }
+}
+
+impl fmt::Write for Message {
+    fn write_str(&mut self, text: &str) -> fmt::Result {
+        let end = self.length + text.len();
+        let room = self.bytes.get_mut(self.length..end).ok_or(fmt::Error)?;
+        room.copy_from_slice(text.as_bytes());
+        self.length = end;
+        Ok(())
     }
 }
 

@@ -1,5 +1,9 @@
 pub mod Seeking
 pub mod Storing
+pub mod Telling
+pub mod ManySteps
+pub mod Counting
 pub mod Unrolled
 pub mod Exact
 pub mod Ending
+pub mod RunsOfCalls

@@ -9,10 +9,7 @@ use mathlib.Core.Path.{_≡_, refl, _∙_, sym, ap}
 use mathlib.Core.List.{List, [], _∷_, _++_}
 use lib.ListN.{length, getD, set, drop, length-append}
 use lib.Seq.{sets, sets-eq, drop-cons}
-use Rattle.maps.specs.Buffer.{littleEndian, bytesOf, recordIn, numberOf, numberIn}
-use Rattle.numbers.specs.Outcome.{Outcome, gives, refuses}
-use Rattle.stepping.specs.Answers.{Item, finish, marker, value, field}
-use Rattle.stepping.specs.Words.{words}
+use Rattle.maps.specs.Buffer.{littleEndian, bytesOf, recordIn}
 
 pub sets-append : (l : List ℕ) (i : ℕ) (a b : List ℕ) → sets l i (a ++ b) ≡ sets (sets l i a) (i + length a) b
 sets-append l i [] b = rw (add-zero i)
@@ -25,7 +22,7 @@ unfolding littleEndian
 length-little zero x = refl
 length-little (suc n) x = ap suc (length-little n (x / 256))
 
-length-bytes : (ws : List ℕ) → length (bytesOf ws) ≡ 8 * length ws
+pub length-bytes : (ws : List ℕ) → length (bytesOf ws) ≡ 8 * length ws
 length-bytes [] = refl
 length-bytes (w ∷ ws) =
     length-append (littleEndian 8 w) (bytesOf ws) ∙ (let e : length (littleEndian 8 w) ≡ 8 = length-little 8 w in omega (arith, e, length-bytes ws))
@@ -48,12 +45,3 @@ record-is ws old e h =
     let n : length (bytesOf ws) ≡ 64 = omega (arith, length-bytes ws) in
     let m : 0 + length (bytesOf ws) ≡ 64 = omega arith in
     rw (le-ltb (length old) 64 h) (sets-eq (bytesOf ws) old 0 (omega arith) ∙ ap (λ (k : ℕ). bytesOf ws ++ drop k old) m)
-
--- the number that the words of an answer tell
-pub number-is : (o : Outcome Item) → numberIn (words o) ≡ numberOf o
-unfolding numberIn
-number-is (gives (finish p)) = refl
-number-is (gives (marker a x y e)) = refl
-number-is (gives (value v)) = refl
-number-is (gives (field id a v)) = refl
-number-is (refuses n p) = refl

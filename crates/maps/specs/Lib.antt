@@ -2,5 +2,5 @@ pub mod Buffer
 pub mod Walk
 pub mod Calls
 pub mod Private
-pub mod Theorems
 pub mod Exported
+pub mod Theorems

@@ -1,20 +1,41 @@
 // The exported functions: steps for a caller in another language, which lends a buffer for the answer's record.
 ghost use mathlib.Core.Path.{_≡_};
 ghost use Prim.Native.Nat.{_+_, _≤_};
-ghost use lib.ListN.{length};
+ghost use lib.ListN.{length, take};
 ghost use lib.Seq.{sets};
-ghost use Rattle.numbers.specs.Outcome.{refuses};
-ghost use Rattle.framing.specs.Read.{spansOf};
+ghost use mathlib.Core.List.{[], _∷_};
+ghost use Rattle.numbers.specs.Outcome.{andThen, refuses};
+ghost use Rattle.framing.specs.Read.{annotationRead, spansOf};
 ghost use Rattle.stepping.specs.Words.{words, valueWords};
-ghost use Rattle.stepping.specs.Read.{itemRead};
+ghost use Rattle.stepping.specs.Read.{bodyRead, itemRead, scalarRead};
+ghost use Rattle.stepping.specs.Scalars.{stepIn, readScalar, readWithValue};
 ghost use Rattle.maps.specs.Buffer.{littleEndian, bytesOf, recordIn, numberIn, returned};
-ghost use Rattle.maps.specs.Exported.{exportedStep};
+ghost use Rattle.maps.specs.Exported.{exportedStep, refusedWords, exportedAnnotation, annotationWords, enteredAt, exportedBody, kindOf, bodyWords, oneIf, scalarWords, readingWords, numberBy, exportedNumber, numberWords, fullRun, allWords, lastNumber, recordsIn, countIn, returnedLast, itemsIn};
+ghost use Rattle.maps.specs.Walk.{whole};
+ghost use Rattle.maps.specs.Private.{leftOf};
+use crate::walk::count_items;
+use framing::annotations_iterator::Annotation;
+use framing::annotations_iterator::read_annotation;
 use framing::encoded_value::EncodedValue;
+use framing::encoded_value::Framed;
+use numbers::binary_buffer::read_int;
+use numbers::binary_buffer::read_var_int;
+use numbers::binary_buffer::read_var_uint;
+use numbers::int::Int;
 use numbers::refusal::OUTSIDE;
 use numbers::refusal::RECORD_TOO_SHORT;
 use numbers::refusal::Refusal;
+use numbers::var_int::VarInt;
+use numbers::var_uint::VarUInt;
 use stepping::cursor::Cursor;
 use stepping::cursor::Item;
+use stepping::cursor::Rules;
+use stepping::value::Body;
+use stepping::value::Scalar;
+use stepping::value::ValueRead;
+use stepping::value::open;
+use stepping::value::read_with_value;
+use stepping::value::value_in;
 
 // The bytes of a record.
 const RECORD: usize = 64;
@@ -68,6 +89,123 @@ fn words_of(item: Item) -> [u64; 8]
     }
 }
 
+fn refused_words(refusal: Refusal) -> [u64; 8]
+    ensures { λ r. ⌜ r ≡ refusedWords (refusal .number) (refusal .position) ⌝ }
+{
+    [9, refusal.number, refusal.position as u64, 0, 0, 0, 0, 0]
+}
+
+fn outside_words() -> [u64; 8]
+    ensures { λ r. ⌜ r ≡ refusedWords 50 0 ⌝ }
+{
+    [9, OUTSIDE, 0, 0, 0, 0, 0, 0]
+}
+
+// The words of an annotation step.
+fn annotation_words(position: usize, annotation: Annotation) -> [u64; 8]
+    ensures { λ r. ⌜ r ≡ annotationWords position (annotationRead annotation) ⌝ }
+{
+    match annotation {
+        Annotation::Id { id, next } => [5, 0, position as u64, id as u64, 0, 0, next as u64, 0],
+        Annotation::End => [0, 0, position as u64, 0, 0, 0, 0, 0],
+        Annotation::Refused(refusal) => refused_words(refusal),
+    }
+}
+
+fn kind_of(rules: Rules) -> u64
+    ensures { λ r. ⌜ r ≡ kindOf rules ⌝ }
+{
+    match rules {
+        Rules::Stream => 0,
+        Rules::Sequence => 1,
+        Rules::Fields => 2,
+    }
+}
+
+// The words of a body that a container opens.
+fn body_words(descriptor: usize, body: Body) -> [u64; 8]
+    ensures { λ r. ⌜ r ≡ bodyWords (andThen (bodyRead body) (enteredAt descriptor)) ⌝ }
+{
+    match body {
+        Body::Open { rules, cursor } => [
+            6,
+            kind_of(rules),
+            descriptor as u64,
+            0,
+            0,
+            cursor.at as u64,
+            cursor.end as u64,
+            0,
+        ],
+        Body::Refused(refusal) => refused_words(refusal),
+    }
+}
+
+// The words of a reading: what it is, its number and its part.
+fn reading_words(value: EncodedValue, what: u64, worth: u64, start: usize, end: usize) -> [u64; 8]
+    ensures { λ r. ⌜ r ≡ 7 ∷ value .byte ∷ value .descriptor ∷ what ∷ worth ∷ start ∷ end ∷ 0 ∷ [] ⌝ }
+{
+    [
+        7,
+        wide(value.byte),
+        value.descriptor as u64,
+        what,
+        worth,
+        start as u64,
+        end as u64,
+        0,
+    ]
+}
+
+fn one_if(b: bool) -> u64
+    ensures { λ r. ⌜ r ≡ oneIf b ⌝ }
+{
+    if b {
+        return 1;
+    }
+    0
+}
+
+// The words of a value's reading.
+fn scalar_words(value: EncodedValue, scalar: Scalar) -> [u64; 8]
+    ensures { λ r. ⌜ r ≡ scalarWords (spansOf value) (scalarRead scalar) ⌝ }
+{
+    match scalar {
+        Scalar::Null { type_code: _ } => reading_words(value, 0, 0, 0, 0),
+        Scalar::Bool { value: b } => reading_words(value, 1, one_if(b), 0, 0),
+        Scalar::Int {
+            negative,
+            start,
+            end,
+        } => reading_words(value, 2, one_if(negative), start, end),
+        Scalar::Float { bits } => reading_words(value, 3, bits, 0, 0),
+        Scalar::Decimal { start, end } => reading_words(value, 4, 0, start, end),
+        Scalar::Timestamp { start, end } => reading_words(value, 5, 0, start, end),
+        Scalar::Symbol { id } => reading_words(value, 6, id, 0, 0),
+        Scalar::Text { start, end } => reading_words(value, 7, 0, start, end),
+        Scalar::Clob { start, end } => reading_words(value, 8, 0, start, end),
+        Scalar::Blob { start, end } => reading_words(value, 9, 0, start, end),
+        Scalar::Container => reading_words(value, 10, 0, 0, 0),
+        Scalar::Refused(refusal) => refused_words(refusal),
+    }
+}
+
+// The words of a number.
+fn number_words(position: usize, negative: bool, value: usize, rest: usize, end: usize) -> [u64; 8]
+    ensures { λ r. ⌜ r ≡ 8 ∷ oneIf negative ∷ position ∷ value ∷ 0 ∷ rest ∷ end ∷ 0 ∷ [] ⌝ }
+{
+    [
+        8,
+        one_if(negative),
+        position as u64,
+        value as u64,
+        0,
+        rest as u64,
+        end as u64,
+        0,
+    ]
+}
+
 // The eight bytes of a word from `at` on, the least significant first.
 fn put_word(out: &mut [u8], at: usize, word: u64)
     requires { ⌜ at + 8 ≤ length (now out) ⌝ }
@@ -95,16 +233,23 @@ fn put_words(out: &mut [u8], at: usize, words: &[u64; 8])
     }
 }
 
+// The number that a record tells: a refusal's, else 0.
+fn number_in(words: &[u64; 8]) -> u64
+    ensures { λ r. ⌜ r ≡ numberIn (now (words .entry)) ⌝ }
+{
+    if words[0] == 9 {
+        return words[1];
+    }
+    0
+}
+
 // Puts a record at the buffer's start. Returns 0, or the refusal's number where the record is one's.
 fn put_record(out: &mut [u8], words: &[u64; 8]) -> u64
     requires { ⌜ (length (now words) ≡ 8) × (64 ≤ length (now out)) ⌝ }
     ensures { λ r. ⌜ (r ≡ numberIn (now (words .entry))) × (now (out .exit) ≡ recordIn (now (words .entry)) (now (out .entry))) ⌝ }
 {
     put_words(out, 0, words);
-    if words[0] == 9 {
-        return words[1];
-    }
-    0
+    number_in(words)
 }
 
 fn refused_outside() -> Item
@@ -157,4 +302,259 @@ pub extern "C" fn ion_map_step(
     }
     let words = words_of(step_by_kind(map, start, end, position, kind));
     put_record(out, &words)
+}
+
+// One annotation step over the bytes start..end.
+fn annotation_at(map: &[u8], start: usize, end: usize, position: usize) -> [u64; 8]
+    ensures { λ r. ⌜ r ≡ annotationWords position (exportedAnnotation (now (map .entry)) start end position) ⌝ }
+{
+    if position < start {
+        return outside_words();
+    }
+    annotation_words(position, read_annotation(map, position, end))
+}
+
+#[no_mangle]
+pub extern "C" fn ion_map_annotation(
+    map: &[u8],
+    start: usize,
+    end: usize,
+    position: usize,
+    out: &mut [u8],
+) -> u64
+    ensures { λ r. ⌜ r ≡ returned (now (out .entry)) (exportedAnnotation (now (map .entry)) start end position) ⌝ }
+    ensures { λ _. ⌜ now (out .exit) ≡ recordIn (annotationWords position (exportedAnnotation (now (map .entry)) start end position)) (now (out .entry)) ⌝ }
+{
+    if out.len() < RECORD {
+        return RECORD_TOO_SHORT;
+    }
+    let words = annotation_at(map, start, end, position);
+    put_record(out, &words)
+}
+
+// Steps into the container at `position` of the part start..end.
+fn body_at(map: &[u8], start: usize, end: usize, position: usize) -> [u64; 8]
+    ensures { λ r. ⌜ r ≡ bodyWords (exportedBody (now (map .entry)) start end position) ⌝ }
+{
+    match value_in(map, start, end, position) {
+        Framed::Value(value) => body_words(value.descriptor, open(value)),
+        Framed::Refused(refusal) => refused_words(refusal),
+    }
+}
+
+#[no_mangle]
+pub extern "C" fn ion_map_step_in(
+    map: &[u8],
+    start: usize,
+    end: usize,
+    position: usize,
+    out: &mut [u8],
+) -> u64
+    ensures { λ r. ⌜ r ≡ returned (now (out .entry)) (stepIn (now (map .entry)) start end position) ⌝ }
+    ensures { λ _. ⌜ now (out .exit) ≡ recordIn (bodyWords (exportedBody (now (map .entry)) start end position)) (now (out .entry)) ⌝ }
+{
+    if out.len() < RECORD {
+        return RECORD_TOO_SHORT;
+    }
+    let words = body_at(map, start, end, position);
+    put_record(out, &words)
+}
+
+// Reads the value at `position` of the part start..end.
+fn scalar_at(map: &[u8], start: usize, end: usize, position: usize) -> [u64; 8]
+    ensures { λ r. ⌜ r ≡ readingWords (readWithValue (now (map .entry)) start end position) ⌝ }
+{
+    match read_with_value(map, start, end, position) {
+        ValueRead::Read { value, scalar } => scalar_words(value, scalar),
+        ValueRead::Refused(refusal) => refused_words(refusal),
+    }
+}
+
+#[no_mangle]
+pub extern "C" fn ion_map_scalar(
+    map: &[u8],
+    start: usize,
+    end: usize,
+    position: usize,
+    out: &mut [u8],
+) -> u64
+    ensures { λ r. ⌜ r ≡ returned (now (out .entry)) (readScalar (now (map .entry)) start end position) ⌝ }
+    ensures { λ _. ⌜ now (out .exit) ≡ recordIn (readingWords (readWithValue (now (map .entry)) start end position)) (now (out .entry)) ⌝ }
+{
+    if out.len() < RECORD {
+        return RECORD_TOO_SHORT;
+    }
+    let words = scalar_at(map, start, end, position);
+    put_record(out, &words)
+}
+
+// A number by its form.
+fn number_by(map: &[u8], end: usize, position: usize, form: u64, size: usize) -> [u64; 8]
+    ensures { λ r. ⌜ r ≡ numberWords position (numberBy (now (map .entry)) end position form size) ⌝ }
+{
+    if form == 0 {
+        return match read_var_uint(map, position, end) {
+            VarUInt::Value { value, next } => number_words(position, false, value, next, next),
+            VarUInt::Refused(refusal) => refused_words(refusal),
+        };
+    }
+    if form == 1 {
+        return match read_var_int(map, position, end) {
+            VarInt::Value {
+                negative,
+                magnitude,
+                next,
+            } => number_words(position, negative, magnitude, next, next),
+            VarInt::Refused(refusal) => refused_words(refusal),
+        };
+    }
+    match read_int(map, position, end, size) {
+        Int::Value {
+            negative,
+            first,
+            rest,
+            end: past,
+        } => number_words(position, negative, first as usize, rest, past),
+        Int::Refused(refusal) => refused_words(refusal),
+    }
+}
+
+fn number_at(
+    map: &[u8],
+    start: usize,
+    end: usize,
+    position: usize,
+    form: u64,
+    size: usize,
+) -> [u64; 8]
+    ensures { λ r. ⌜ r ≡ numberWords position (exportedNumber (now (map .entry)) start end position form size) ⌝ }
+{
+    if position < start {
+        return outside_words();
+    }
+    if 2 < form {
+        return outside_words();
+    }
+    number_by(map, end, position, form, size)
+}
+
+#[no_mangle]
+pub extern "C" fn ion_map_number(
+    map: &[u8],
+    start: usize,
+    end: usize,
+    position: usize,
+    form: u64,
+    size: usize,
+    out: &mut [u8],
+) -> u64
+    ensures { λ r. ⌜ r ≡ returned (now (out .entry)) (exportedNumber (now (map .entry)) start end position form size) ⌝ }
+    ensures { λ _. ⌜ now (out .exit) ≡ recordIn (numberWords position (exportedNumber (now (map .entry)) start end position form size)) (now (out .entry)) ⌝ }
+{
+    if out.len() < RECORD {
+        return RECORD_TOO_SHORT;
+    }
+    let words = number_at(map, start, end, position, form, size);
+    put_record(out, &words)
+}
+
+// Where a step's answer leaves off: at an item's end, or nowhere behind the end and a refusal.
+enum Left {
+    At(usize),
+    Over,
+}
+
+fn left_at(item: Item) -> Left
+    ensures { λ r. ⌜ r ≡ leftOf (itemRead item) ⌝ }
+{
+    match item {
+        Item::End { position: _ } => Left::Over,
+        Item::Marker {
+            start: _,
+            major: _,
+            minor: _,
+            end,
+        } => Left::At(end),
+        Item::Value(value) => Left::At(value.end),
+        Item::Field {
+            id: _,
+            start: _,
+            value,
+        } => Left::At(value.end),
+        Item::Refused(_) => Left::Over,
+    }
+}
+
+// How many records were put, and the number of the last answer.
+struct Steps {
+    count: usize,
+    number: u64,
+}
+
+// Puts the records of steps from `position` on, as many as there is room for.
+fn put_steps(
+    map: &[u8],
+    start: usize,
+    end: usize,
+    position: usize,
+    kind: u64,
+    out: &mut [u8],
+) -> Steps
+    ensures { λ r. ⌜ r .count ≡ length (fullRun (now (out .entry)) (now (map .entry)) start end position kind) ⌝ }
+    ensures { λ r. ⌜ r .number ≡ lastNumber 0 (fullRun (now (out .entry)) (now (map .entry)) start end position kind) ⌝ }
+    ensures { λ _. ⌜ now (out .exit) ≡ sets (now (out .entry)) 0 (bytesOf (allWords (fullRun (now (out .entry)) (now (map .entry)) start end position kind))) ⌝ }
+{
+    let room = out.len() / RECORD;
+    let mut at = position;
+    let mut count = 0;
+    while count < room {
+        let item = step_by_kind(map, start, end, at, kind);
+        let words = words_of(item);
+        put_words(out, count * RECORD, &words);
+        count = count + 1;
+        match left_at(item) {
+            Left::At(next) => {
+                at = next;
+            }
+            Left::Over => {
+                return Steps {
+                    count,
+                    number: number_in(&words),
+                };
+            }
+        }
+    }
+    Steps { count, number: 0 }
+}
+
+// As many steps as `out` has room for, one record after the other, up to an end or a refusal. `count` is how many records were put.
+#[no_mangle]
+pub extern "C" fn ion_map_steps(
+    map: &[u8],
+    start: usize,
+    end: usize,
+    position: usize,
+    kind: u64,
+    out: &mut [u8],
+    count: &mut u64,
+) -> u64
+    ensures { λ r. ⌜ r ≡ returnedLast (fullRun (now (out .entry)) (now (map .entry)) start end position kind) (now (out .entry)) ⌝ }
+    ensures { λ _. ⌜ now (out .exit) ≡ recordsIn (fullRun (now (out .entry)) (now (map .entry)) start end position kind) (now (out .entry)) ⌝ }
+    ensures { λ _. ⌜ now (count .exit) ≡ countIn (fullRun (now (out .entry)) (now (map .entry)) start end position kind) (now (out .entry)) ⌝ }
+{
+    if out.len() < RECORD {
+        *count = 0;
+        return RECORD_TOO_SHORT;
+    }
+    let steps = put_steps(map, start, end, position, kind, out);
+    *count = steps.count as u64;
+    steps.number
+}
+
+// How many items at most `most` calls of the walk hand out, from the map's start.
+#[no_mangle]
+pub extern "C" fn ion_map_walked(map: &[u8], most: u64) -> u64
+    ensures { λ r. ⌜ r ≡ itemsIn (take most (whole (now (map .entry)))) ⌝ }
+{
+    count_items(map, most)
 }

@@ -1,11 +1,13 @@
 // The walk of a whole map: markers and values in order, a container before what is in it, one step a call.
 ghost use mathlib.Core.Path.{_≡_};
 ghost use Prim.Native.Nat.{_≤_};
+ghost use lib.ListN.{take};
 ghost use Rattle.numbers.specs.Outcome.{refuses};
 ghost use Rattle.framing.specs.Read.{spansOf};
 ghost use Rattle.stepping.specs.Read.{itemRead};
-ghost use Rattle.maps.specs.Walk.{visit, answerAt};
-ghost use Rattle.maps.specs.Calls.{startOf, rulesAt, seek, movedTo, pastValue, past, visitOf, nextOf, walkedRead};
+ghost use Rattle.maps.specs.Walk.{visit, answerAt, whole};
+ghost use Rattle.maps.specs.Calls.{startOf, rulesAt, seek, movedTo, pastValue, past, visitOf, nextOf, isLast, calls, walkedRead};
+ghost use Rattle.maps.specs.Exported.{itemsIn};
 ghost use Rattle.maps.specs.Private.{rulesBy, stateOf, seenRead};
 use framing::encoded_value::EncodedValue;
 use numbers::binary_buffer::outside;
@@ -186,6 +188,66 @@ fn look(s: &[u8], ends: &[usize; 33], fields: &[bool; 33], place: Place) -> Seen
         return refused(depth, TOO_DEEP, place.at);
     }
     find(s, ends, fields, place)
+}
+
+fn is_last(item: Item) -> bool
+    ensures { λ r. ⌜ r ≡ isLast (itemRead item) ⌝ }
+{
+    match item {
+        Item::End { position: _ } => true,
+        Item::Marker {
+            start: _,
+            major: _,
+            minor: _,
+            end: _,
+        } => false,
+        Item::Value(_) => false,
+        Item::Field {
+            id: _,
+            start: _,
+            value: _,
+        } => false,
+        Item::Refused(_) => true,
+    }
+}
+
+// How many items at most `most` calls hand out from a place on.
+fn count_from(
+    s: &[u8],
+    ends: &mut [usize; 33],
+    fields: &mut [bool; 33],
+    from: Place,
+    most: u64,
+) -> u64
+    ensures { λ r. ⌜ r ≡ itemsIn (calls most (now (s .entry)) (stateOf (now (ends .entry)) (now (fields .entry)) from)) ⌝ }
+{
+    let mut place = from;
+    let mut count = 0;
+    while count < most {
+        let seen = look(s, ends, fields, place);
+        let item = seen.item;
+        if is_last(item) {
+            return count;
+        }
+        place = pass_item(ends, fields, place, seen.depth, item);
+        count = count + 1;
+    }
+    count
+}
+
+// How many items at most `most` calls of a map's walk hand out from its start.
+pub fn count_items(s: &[u8], most: u64) -> u64
+    ensures { λ r. ⌜ r ≡ itemsIn (take most (whole (now (s .entry)))) ⌝ }
+{
+    let walk = Walk::start(s);
+    let mut ends = walk.ends;
+    let mut fields = walk.fields;
+    let place = Place {
+        depth: walk.depth,
+        at: walk.at,
+        deep: walk.deep,
+    };
+    count_from(s, &mut ends, &mut fields, place, most)
 }
 
 impl Walk {

@@ -4,11 +4,13 @@ use Rattle.numbers.specs.Outcome.{Outcome, gives, andThen}
 use Rattle.numbers.specs.Read.{refusalRead}
 use Rattle.framing.specs.Read.{spansOf}
 use Rattle.stepping.specs.Answers.{Item, finish, marker, value, field, Tile, skip, hand, Stepped}
-use Rattle.stepping.specs.Scalars.{Opened, Scalar, null, bool, int, float, decimal, timestamp, symbol, string, clob, blob, container}
+use Rattle.stepping.specs.Scalars.{Opened, ReadValue, Scalar, null, bool, int, float, decimal, timestamp, symbol, string, clob, blob, container}
 use Rattle.stepping.specs.declared.value.Body.{Body}
 use Rattle.stepping.specs.declared.value.Body.the-variants.{Open, Refused as BodyRefused}
 use Rattle.stepping.specs.declared.value.Scalar.{Scalar as ScalarEnum}
 use Rattle.stepping.specs.declared.value.Scalar.the-variants.{Null, Bool, Int, Float, Decimal, Timestamp, Symbol, Text, Clob, Blob, Container, Refused as ScalarRefused}
+use Rattle.stepping.specs.declared.value.ValueRead.{ValueRead}
+use Rattle.stepping.specs.declared.value.ValueRead.the-variants.{Read as ValueWith, Refused as ValueRefused}
 use Rattle.stepping.specs.declared.cursor.Item.{Item as ItemEnum}
 use Rattle.stepping.specs.declared.cursor.Item.the-variants.{End, Marker, Value, Field, Refused}
 use Rattle.stepping.specs.declared.cursor.Step.{Step}
@@ -32,6 +34,10 @@ scalarRead (Clob a b) = gives (clob a b)
 scalarRead (Blob a b) = gives (blob a b)
 scalarRead Container = gives container
 scalarRead (ScalarRefused e) = refusalRead e
+
+abbrev pub valueRead : ValueRead → Outcome ReadValue
+valueRead (ValueWith v x) = gives (record { value = spansOf v; scalar = scalarRead x })
+valueRead (ValueRefused e) = refusalRead e
 
 abbrev pub itemRead : ItemEnum → Outcome Item
 itemRead (End p) = gives (finish p)

@@ -116,6 +116,17 @@ scalarOf s v = pick (eqb (codeOf v) 15) (nullOf v) (typedOf s v (typeOf v))
 unfoldable pub readScalar : List ℕ → ℕ → ℕ → ℕ → Outcome Scalar
 readScalar s start end at = andThen (valueIn s start end at) (scalarOf s)
 
+-- a value's spans with its reading
+pub record ReadValue : Type 0 where
+  pub value : Spans
+  pub scalar : Outcome Scalar
+
+abbrev pub withValue : List ℕ → Spans → Outcome ReadValue
+withValue s v = gives (record { value = v; scalar = scalarOf s v })
+
+unfoldable pub readWithValue : List ℕ → ℕ → ℕ → ℕ → Outcome ReadValue
+readWithValue s start end at = andThen (valueIn s start end at) (withValue s)
+
 -- the span of a reading's part: a string's, a clob's, a blob's, a decimal's or a timestamp's body, or an int's magnitude; the empty one at 0 where it has
 -- none or is refused
 abbrev pub spanned : ℕ → ℕ → Span

@@ -7,8 +7,8 @@ ghost use lib.ListN.{length};
 ghost use lib.Dec.{eqb};
 ghost use Rattle.numbers.specs.Outcome.{gives, pick};
 ghost use Rattle.framing.specs.Read.{framedRead, spansOf};
-ghost use Rattle.stepping.specs.Scalars.{null, valueIn, isContainer, opened, stepIn, boolOf, positiveOf, negativeOf, floatOf, symbolOf, stringOf, typedOf, scalarOf, readScalar, spanOf, scalarPart};
-ghost use Rattle.stepping.specs.Read.{bodyRead, scalarRead};
+ghost use Rattle.stepping.specs.Scalars.{null, valueIn, isContainer, opened, stepIn, boolOf, positiveOf, negativeOf, floatOf, symbolOf, stringOf, typedOf, scalarOf, readScalar, readWithValue, spanOf, scalarPart};
+ghost use Rattle.stepping.specs.Read.{bodyRead, scalarRead, valueRead};
 use crate::cursor::Cursor;
 use crate::cursor::Rules;
 use crate::float::widen;
@@ -79,6 +79,12 @@ pub enum Scalar {
     Refused(Refusal),
 }
 
+// A value's spans with what it is read as.
+pub enum ValueRead {
+    Read { value: EncodedValue, scalar: Scalar },
+    Refused(Refusal),
+}
+
 // The bytes start..end of the slice.
 pub struct Span {
     pub start: usize,
@@ -89,7 +95,7 @@ pub struct Span {
 const MAX_SYMBOL_SIZE_IN_BYTES: usize = 8;
 
 // The value at `at` in the part start..end.
-fn value_in(s: &[u8], start: usize, end: usize, at: usize) -> Framed
+pub fn value_in(s: &[u8], start: usize, end: usize, at: usize) -> Framed
     ensures { λ r. ⌜ framedRead r ≡ valueIn (now (s .entry)) start end at ⌝ }
 {
     if at < start {
@@ -112,7 +118,7 @@ pub fn is_container(value: EncodedValue) -> bool
 }
 
 // The body of a value that is a container.
-fn open(value: EncodedValue) -> Body
+pub fn open(value: EncodedValue) -> Body
     ensures { λ r. ⌜ bodyRead r ≡ opened (spansOf value) ⌝ }
 {
     if !is_container(value) {
@@ -272,13 +278,26 @@ fn scalar_of(s: &[u8], value: EncodedValue) -> Scalar
     read_typed(s, value, type_code)
 }
 
+// Reads the value at `at`, and hands its spans out too.
+pub fn read_with_value(s: &[u8], start: usize, end: usize, at: usize) -> ValueRead
+    ensures { λ r. ⌜ valueRead r ≡ readWithValue (now (s .entry)) start end at ⌝ }
+{
+    match value_in(s, start, end, at) {
+        Framed::Value(value) => {
+            let scalar = scalar_of(s, value);
+            ValueRead::Read { value, scalar }
+        }
+        Framed::Refused(refusal) => ValueRead::Refused(refusal),
+    }
+}
+
 // Reads the value at `at`.
 pub fn read(s: &[u8], start: usize, end: usize, at: usize) -> Scalar
     ensures { λ r. ⌜ scalarRead r ≡ readScalar (now (s .entry)) start end at ⌝ }
 {
-    match value_in(s, start, end, at) {
-        Framed::Value(value) => scalar_of(s, value),
-        Framed::Refused(refusal) => Scalar::Refused(refusal),
+    match read_with_value(s, start, end, at) {
+        ValueRead::Read { value: _, scalar } => scalar,
+        ValueRead::Refused(refusal) => Scalar::Refused(refusal),
     }
 }
 

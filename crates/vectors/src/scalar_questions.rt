@@ -8,7 +8,7 @@ use stepping::value::Body;
 use stepping::value::Scalar;
 
 // The name of a type. That of an int is by the code 2 alone.
-fn type_name(line: Line, type_code: u8) -> Line {
+pub fn type_name(line: Line, type_code: u8) -> Line {
     match type_code {
         0 => line.word(b"null"),
         1 => line.word(b"bool"),

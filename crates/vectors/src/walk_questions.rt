@@ -1,30 +1,18 @@
 // The answers to questions on the walk of a part that is taken as a stream.
 use crate::frame_questions::joined;
+use crate::scalar_questions::type_name;
 use crate::text::Line;
 use framing::encoded_value::EncodedValue;
 use maps::walk::Walk;
 use stepping::cursor::Item;
 
-fn type_word(line: Line, code: u8) -> Line {
-    match code {
-        0 => line.word(b"null"),
-        1 => line.word(b"bool"),
-        2 | 3 => line.word(b"int"),
-        4 => line.word(b"float"),
-        5 => line.word(b"decimal"),
-        6 => line.word(b"timestamp"),
-        7 => line.word(b"symbol"),
-        8 => line.word(b"string"),
-        9 => line.word(b"clob"),
-        10 => line.word(b"blob"),
-        11 => line.word(b"list"),
-        12 => line.word(b"sexp"),
-        _ => line.word(b"struct"),
-    }
+// Both signs of an int have one name, by the code 2.
+fn name_code(type_code: u8) -> u8 {
+    if type_code == 3 { 2 } else { type_code }
 }
 
 fn value(line: Line, depth: usize, start: usize, value: EncodedValue) -> Line {
-    type_word(line.position(depth), value.byte / 16)
+    type_name(line.position(depth), name_code(value.byte / 16))
         .position(start)
         .position(value.descriptor)
         .position(value.body)

@@ -67,76 +67,16 @@ impl Questions {
         self.ask(kind, bytes, &[0, bytes.len(), last]);
     }
 
-    /// A map, as it should be or damaged, or a string of interesting bytes.
     fn map(&mut self) -> Map {
-        let limits = self.limits;
-        let random = &mut self.random;
-        let mut map = match random.below(10) {
-            0 => {
-                let count = random.below(limits.body * 2 + 6);
-                let bytes = (0..count).map(|_| random.pick(INTERESTING)).collect();
-                Map {
-                    bytes,
-                    values: vec![0],
-                    ..Map::default()
-                }
-            }
-            1 => random.body(limits, true),
-            2 => random.value(limits),
-            _ => random.stream(limits),
-        };
-        if random.one_in(3) {
-            random.damage(&mut map.bytes);
-        }
-        map
+        self.random.any(self.limits)
     }
 
-    /// A map whose size is rare: many annotation bytes, or many levels.
     fn rare(&mut self) -> Map {
-        let random = &mut self.random;
-        let mut map = if random.one_in(2) {
-            let count = random.from_to(253, 258);
-            let mut ids = Vec::new();
-            while ids.len() < count {
-                ids.push(0x80 | random.below(128) as u8);
-            }
-            let value = random.value(SMALL);
-            let value = if value.wrappers.first() == Some(&0) {
-                Map {
-                    bytes: vec![0x21, 7],
-                    ..Map::default()
-                }
-            } else {
-                value
-            };
-            let mut map = random.annotated(&value, &ids);
-            map.values.push(0);
-            map
-        } else {
-            let depth = random.from_to(28, 37);
-            random.deep(depth)
-        };
-        if random.one_in(4) {
-            random.damage(&mut map.bytes);
-        }
-        map
+        self.random.rare()
     }
 
-    /// A part that begins and ends anywhere, now and then outside the bytes or out of order.
     fn part(&mut self, length: usize) -> (usize, usize) {
-        let random = &mut self.random;
-        match random.below(60) {
-            0 => (random.below(length + 3), random.below(length + 3)),
-            1 => (0, usize::MAX),
-            2 => (usize::MAX, length),
-            n if n < 15 => {
-                let at = random.below(length + 1);
-                (at, random.from_to(at, length))
-            }
-            n if n < 25 => (random.below(length + 1), length),
-            n if n < 35 => (0, random.below(length + 1)),
-            _ => (0, length),
-        }
+        self.random.part(length)
     }
 
     fn near(&mut self, positions: &[usize], length: usize) -> usize {

@@ -471,4 +471,77 @@ impl Random {
             }
         }
     }
+
+    /// A map, as it should be or damaged, or a string of interesting bytes.
+    pub fn any(&mut self, limits: Limits) -> Map {
+        let mut map = match self.below(10) {
+            0 => {
+                let count = self.below(limits.body * 2 + 6);
+                let bytes = (0..count).map(|_| self.pick(INTERESTING)).collect();
+                Map {
+                    bytes,
+                    values: vec![0],
+                    ..Map::default()
+                }
+            }
+            1 => self.body(limits, true),
+            2 => self.value(limits),
+            _ => self.stream(limits),
+        };
+        if self.one_in(3) {
+            self.damage(&mut map.bytes);
+        }
+        map
+    }
+
+    /// A map whose size is rare: many annotation bytes, or many levels.
+    pub fn rare(&mut self) -> Map {
+        let mut map = if self.one_in(2) {
+            let count = self.from_to(253, 258);
+            self.annotated_by(count)
+        } else {
+            let depth = self.from_to(28, 37);
+            self.deep(depth)
+        };
+        if self.one_in(4) {
+            self.damage(&mut map.bytes);
+        }
+        map
+    }
+
+    /// A value with `count` bytes of annotations.
+    pub fn annotated_by(&mut self, count: usize) -> Map {
+        let mut ids = Vec::new();
+        while ids.len() < count {
+            ids.push(0x80 | self.below(128) as u8);
+        }
+        let value = self.value(SMALL);
+        let value = if value.wrappers.first() == Some(&0) {
+            Map {
+                bytes: vec![0x21, 7],
+                ..Map::default()
+            }
+        } else {
+            value
+        };
+        let mut map = self.annotated(&value, &ids);
+        map.values.push(0);
+        map
+    }
+
+    /// A part that begins and ends anywhere, now and then outside the bytes or out of order.
+    pub fn part(&mut self, length: usize) -> (usize, usize) {
+        match self.below(60) {
+            0 => (self.below(length + 3), self.below(length + 3)),
+            1 => (0, usize::MAX),
+            2 => (usize::MAX, length),
+            n if n < 15 => {
+                let at = self.below(length + 1);
+                (at, self.from_to(at, length))
+            }
+            n if n < 25 => (self.below(length + 1), length),
+            n if n < 35 => (0, self.below(length + 1)),
+            _ => (0, length),
+        }
+    }
 }

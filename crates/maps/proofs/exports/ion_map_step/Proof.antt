@@ -7,7 +7,7 @@ use mathlib.Core.List.{List}
 use Rattle.stepping.specs.Words.{words}
 use Rattle.maps.specs.Buffer.{numberIn, recordIn, returned}
 use Rattle.maps.specs.Exported.{exportedStep}
-use Rattle.maps.proofs.Storing.{number-is}
+use Rattle.maps.proofs.Telling.{step-number}
 use borrow.Author.Needs.{needs}
 use Rattle.maps.proofs.exports.ion_map_step.Statement.{statement}
 use Rattle.maps.proofs.exports.ion_map_step.Tie as tie
@@ -36,7 +36,7 @@ returns-2 c =
     let a = w .before .before .before .before .before .args in
     let o = exportedStep (a .map .now) (a .start) (a .end) (a .position) (a .kind) in
     let e : w .words-of .result ≡ words o = w .words-of .ensures ∙ ap words (w .before .step-by-kind .ensures) in
-    (rw (le-ltb _ _ (w .before .before .if1 .left)) (q .put-record .ensures .0 ∙ ap numberIn e ∙ number-is o), q .put-record .ensures .1 ∙ ap (λ (ws : List ℕ). recordIn ws (a .out .now)) e)
+    (rw (le-ltb _ _ (w .before .before .if1 .left)) (q .put-record .ensures .0 ∙ ap numberIn e ∙ step-number o), q .put-record .ensures .1 ∙ ap (λ (ws : List ℕ). recordIn ws (a .out .now)) e)
 
 pub ion-map-step-spec : {M : Type 1} → statement M
 ion-map-step-spec =

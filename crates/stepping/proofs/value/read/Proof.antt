@@ -1,51 +1,50 @@
--- `read` meets its contract: the value is framed, and then read.
+-- `read` meets its contract: the reading of the value with its spans, without these.
 -- Assumes nothing.
 use borrow.Author.Needs.{needs}
-use mathlib.Core.Path.{_∙_, sym, ap}
-use Rattle.numbers.proofs.Outcomes.{then-by, each-of}
-use Rattle.framing.specs.Read.{framedRead}
-use Rattle.stepping.specs.Scalars.{scalarOf, readScalar}
-use Rattle.stepping.proofs.Reading.{value-in-each}
+use Prim.Native.Nat.{ℕ}
+use mathlib.Core.Path.{_≡_, refl, _∙_}
+use mathlib.Core.List.{List}
+use Rattle.numbers.specs.Outcome.{Outcome, gives, refuses, andThen}
+use Rattle.numbers.proofs.Outcomes.{then-by}
+use Rattle.framing.specs.Answers.{Spans}
+use Rattle.stepping.specs.Scalars.{valueIn, Scalar, ReadValue, scalarOf, readScalar, withValue, readWithValue}
+use Rattle.stepping.specs.Read.{valueRead}
 use Rattle.stepping.proofs.value.read.Statement.{statement}
 use Rattle.stepping.proofs.value.read.Tie as tie
 
-value-in-requires : tie.Need-value-in-requires
-value-in-requires c κs = search needs
+abbrev scalarIn : ReadValue → Outcome Scalar
+scalarIn r = r .scalar
 
-enum-known-value : tie.Need-enum-known-value
-enum-known-value c = search needs
+without : (s : List ℕ) (o : Outcome Spans) → andThen (andThen o (withValue s)) scalarIn ≡ andThen o (scalarOf s)
+without s (gives v) = refl
+without s (refuses n p) = refl
 
-scalar-of-requires : tie.Need-scalar-of-requires
-scalar-of-requires c κs =
-    let q = c .before .before .before in
-    let a = q .before .before .args in
-    let i = each-of (value-in-each (a .s .now) (a .start) (a .end) (a .at)) (sym (q .value-in .ensures) ∙ ap framedRead (c .before .value .given .1)) in
-    (i .order, i .within)
+scalar-is : (s : List ℕ) (start end at : ℕ) → andThen (readWithValue s start end at) scalarIn ≡ readScalar s start end at
+unfolding readWithValue readScalar
+scalar-is s start end at = without s (valueIn s start end at)
+
+read-with-value-requires : tie.Need-read-with-value-requires
+read-with-value-requires c κs = search needs
+
+enum-known-scalar : tie.Need-enum-known-scalar
+enum-known-scalar c = search needs
 
 enum-known-refusal : tie.Need-enum-known-refusal
 enum-known-refusal c = search needs
 
 returns : tie.Need-returns
-unfolding readScalar
 returns c =
-    let q = c .before .before .before .before in
+    let q = c .before .before .before in
     let a = q .before .before .args in
-    c .scalar-of .ensures ∙ then-by framedRead (scalarOf (a .s .now)) (c .before .before .value .given .1) (q .value-in .ensures)
+    then-by valueRead scalarIn (c .before .scalar .given .1) (q .read-with-value .ensures) ∙ scalar-is (a .s .now) (a .start) (a .end) (a .at)
 
 returns-2 : tie.Need-returns-2
-unfolding readScalar
 returns-2 c =
     let q = c .before .before .before in
     let a = q .before .before .args in
-    then-by framedRead (scalarOf (a .s .now)) (c .before .refusal .given .1) (q .value-in .ensures)
+    then-by valueRead scalarIn (c .before .refusal .given .1) (q .read-with-value .ensures) ∙ scalar-is (a .s .now) (a .start) (a .end) (a .at)
 
 pub read-spec : {M : Type 1} → statement M
 read-spec =
     tie.close
-    (tie.spec
-    value-in-requires
-    enum-known-value
-    scalar-of-requires
-    enum-known-refusal
-    returns
-    returns-2)
+    (tie.spec read-with-value-requires enum-known-scalar enum-known-refusal returns returns-2)

@@ -1,0 +1,98 @@
+-- `count_from` meets its contract: what was counted with the items that are left is what there is to count.
+-- Assumes nothing.
+use borrow.Author.Needs.{needs}
+use Prim.Native.Nat.{ℕ, suc, _+_, _-_, _≤_}
+use native.Mathlib.Omega.{arith}
+use mathlib.Core.Path.{_≡_, refl, _∙_, sym, ap}
+use Rattle.maps.specs.Walk.{Visit}
+use Rattle.maps.specs.Calls.{visitOf, past, isLast, calls}
+use Rattle.maps.specs.Exported.{itemsIn}
+use Rattle.maps.specs.Private.{stateOf, seenRead}
+use Rattle.maps.specs.declared.walk.Walk.{Walk}
+use Rattle.maps.proofs.Seeking.{visit-depth}
+use Rattle.maps.proofs.Counting.{none-called, last-called, one-called}
+use Rattle.maps.proofs.walk.count_from.Statement.{statement}
+use Rattle.maps.proofs.walk.count_from.Tie as tie
+
+abbrev Inv-loop : tie.InvT-loop
+Inv-loop s ends₀ fields₀ most place₀ count₀ ends fields place count =
+    (count ≤ most) × (count + itemsIn (calls (most - count) s (stateOf ends fields place)) ≡ itemsIn (calls most s (stateOf ends₀ fields₀ place₀)))
+
+abbrev μ-loop : tie.MeasureT-loop
+μ-loop s ends₀ fields₀ most place₀ count₀ ends fields place count = most - count
+
+-- whether the answer of a call in the loop is the last
+lasts : (c : tie.After-is-last Inv-loop μ-loop) → let l = c .before .before .before .before .before .loop in let a = c .before .before .before .before .before .before .before .args in isLast (visitOf (a .s .now) (stateOf (l .ends) (l .fields) (l .place)) .answer) ≡ c .is-last .result
+lasts c = sym (ap (λ (v : Visit). isLast (v .answer)) (c .before .look .ensures)) ∙ sym (c .is-last .ensures)
+
+loop-holds : tie.Need-loop-holds Inv-loop μ-loop
+loop-holds c =
+    let a = c .before .args in
+    let e : a .most - 0 ≡ a .most = omega arith in
+    let f : itemsIn (calls (a .most - 0) (a .s .now) (stateOf (a .ends .now) (a .fields .now) (a .from))) ≡ itemsIn (calls (a .most) (a .s .now) (stateOf (a .ends .now) (a .fields .now) (a .from))) = ap (λ (k : ℕ). itemsIn (calls k (a .s .now) (stateOf (a .ends .now) (a .fields .now) (a .from)))) e in
+    (omega arith, omega (arith, f))
+
+look-requires : tie.Need-look-requires Inv-loop μ-loop
+look-requires c κs = search needs
+
+is-last-requires : tie.Need-is-last-requires Inv-loop μ-loop
+is-last-requires c κs = search needs
+
+returns : tie.Need-returns Inv-loop μ-loop
+returns c =
+    let i = c .before in
+    let t = i .before .before .before .before in
+    let l = t .before .loop in
+    let a = t .before .before .before .args in
+    let q : a .most - l .count ≡ suc (a .most - (l .count + 1)) = omega (arith, t .loop-test .taken) in
+    omega (arith, l .inv .1, last-called (a .s .now) (stateOf (l .ends) (l .fields) (l .place)) q (lasts i ∙ c .if1 .taken))
+
+pass-item-requires : tie.Need-pass-item-requires Inv-loop μ-loop
+pass-item-requires c κs =
+    let k = c .before .before .before .before in
+    let l = k .before .before .before .before .loop in
+    let a = k .before .before .before .before .before .before .args in
+    let e : k .look .result .depth ≡ visitOf (a .s .now) (stateOf (l .ends) (l .fields) (l .place)) .depth = ap (λ (v : Visit). v .depth) (k .look .ensures) in
+    omega (arith, e, visit-depth (a .s .now) (stateOf (l .ends) (l .fields) (l .place)))
+
+add-count : tie.Need-add-count Inv-loop μ-loop
+add-count c = search needs
+
+loop-less : tie.Need-loop-less Inv-loop μ-loop
+loop-less c = search needs
+
+loop-again : tie.Need-loop-again Inv-loop μ-loop
+loop-again c =
+    let i = c .before .before .before .before in
+    let k = i .before in
+    let t = k .before .before .before in
+    let l = t .before .loop in
+    let a = t .before .before .before .args in
+    let w = stateOf (l .ends) (l .fields) (l .place) in
+    let q : a .most - l .count ≡ suc (a .most - (l .count + 1)) = omega (arith, t .loop-test .taken) in
+    let m = one-called (a .s .now) w q (lasts i ∙ c .before .before .before .if1 .left) in
+    let n = ap (λ (x : Walk). itemsIn (calls (a .most - (l .count + 1)) (a .s .now) x)) (c .pass-item .ensures ∙ ap (past w) (k .look .ensures)) in
+    (omega (arith, t .loop-test .taken), omega (arith, l .inv .1, m, n))
+
+returns-2 : tie.Need-returns-2 Inv-loop μ-loop
+returns-2 c =
+    let l = c .before .loop in
+    let a = c .before .before .before .args in
+    let z : a .most - l .count ≡ 0 = omega (arith, c .loop-test .left, l .inv .0) in
+    omega (arith, l .inv .1, none-called (a .s .now) (stateOf (l .ends) (l .fields) (l .place)) z)
+
+pub count-from-spec : {M : Type 1} → statement M
+count-from-spec =
+    tie.close
+    (tie.spec
+    Inv-loop
+    μ-loop
+    loop-holds
+    look-requires
+    is-last-requires
+    returns
+    pass-item-requires
+    add-count
+    loop-less
+    loop-again
+    returns-2)

@@ -1,0 +1,503 @@
+//! Asks both readers a question and compares what they answer.
+
+use crate::expected::{may_stand, Expected};
+use crate::ours::{Part, Reader, Record, RECORD};
+use crate::question::{Ask, Entry, Question, INT, KINDS, VAR_UINT};
+use crate::walking::Walk;
+use oracle::asking::{self, Annotations, Asked, Line, Refusal, Rules, Steps};
+use oracle::lazy::expanded::EncodingContext;
+
+#[derive(Clone, Copy, Debug, PartialEq)]
+pub enum Verdict {
+    Agree,
+    /// An int or Int of more than 15 bytes: as the Ion document has it, the Rust not asked.
+    Apart,
+    Differ,
+}
+
+/// What was compared.
+#[derive(Clone)]
+pub struct Tally {
+    pub agreed: [u64; KINDS.len()],
+    pub apart: u64,
+    pub differ: u64,
+    /// How often each refusal was expected.
+    pub refusals: Refusals,
+}
+
+/// Refusals by number.
+#[derive(Clone, Copy)]
+pub struct Refusals {
+    pub all: [u64; 64],
+    /// Those of them that are the harness's answers and not the Rust's.
+    pub own: [u64; 64],
+}
+
+impl Refusals {
+    fn count(&mut self, number: usize, own: bool) {
+        self.all[number] += 1;
+        self.own[number] += own as u64;
+    }
+}
+
+impl Tally {
+    pub fn cases(&self) -> u64 {
+        self.agreed.iter().sum()
+    }
+}
+
+pub struct Judge<R> {
+    pub reader: R,
+    context: EncodingContext,
+    desk: Desk,
+    pub tally: Tally,
+}
+
+impl<R: Reader> Judge<R> {
+    pub fn new(reader: R) -> Self {
+        Judge {
+            reader,
+            context: EncodingContext::empty(),
+            desk: Desk::new(),
+            tally: Tally {
+                agreed: [0; KINDS.len()],
+                apart: 0,
+                differ: 0,
+                refusals: Refusals {
+                    all: [0; 64],
+                    own: [0; 64],
+                },
+            },
+        }
+    }
+
+    /// Asks, compares and counts.
+    pub fn ask(&mut self, map: &[u8], question: &Question) -> Verdict {
+        let verdict = self.verdict(map, question);
+        match verdict {
+            Verdict::Agree => self.tally.agreed[question.kind(map)] += 1,
+            Verdict::Apart => self.tally.apart += 1,
+            Verdict::Differ => self.tally.differ += 1,
+        }
+        verdict
+    }
+
+    /// Asks and compares.
+    pub fn verdict(&mut self, map: &[u8], question: &Question) -> Verdict {
+        let mut bench = Bench {
+            reader: &self.reader,
+            context: &self.context,
+            desk: &mut self.desk,
+            refusals: &mut self.tally.refusals,
+            map,
+        };
+        let verdict = bench.compare(question);
+        // The Rust's values lie in the context's allocator.
+        self.context.reset();
+        verdict
+    }
+
+    /// What was answered, each call with the Rust's answer and ours.
+    pub fn explained(&mut self, map: &[u8], question: &Question) -> Vec<String> {
+        let refusals = self.tally.refusals;
+        self.desk.trace = Some(Vec::new());
+        self.verdict(map, question);
+        self.tally.refusals = refusals;
+        self.desk.trace.take().unwrap_or_default()
+    }
+}
+
+// ===== The buffer that is lent =====
+
+/// What the buffer holds before a call.
+const FILL: u8 = 0xA5;
+
+/// What the count of many steps is before a call.
+const UNSET: u64 = u64::MAX;
+
+/// Bytes behind the room that is lent, which no call may touch.
+const GUARD: usize = 16;
+
+/// The most room that is lent.
+pub const MOST_ROOM: usize = 24 * RECORD;
+
+struct Desk {
+    buffer: [u8; MOST_ROOM + GUARD],
+    /// Where both answers are written down, if somebody wants them.
+    trace: Option<Vec<String>>,
+}
+
+impl Desk {
+    fn new() -> Self {
+        Desk {
+            buffer: [FILL; MOST_ROOM + GUARD],
+            trace: None,
+        }
+    }
+
+    fn lend(&mut self, room: usize) -> &mut [u8] {
+        self.buffer[..room + GUARD].fill(FILL);
+        &mut self.buffer[..room]
+    }
+
+    fn slot(&self, index: usize) -> &[u8] {
+        &self.buffer[index * RECORD..(index + 1) * RECORD]
+    }
+
+    fn record(&self) -> Record {
+        Record::read(self.slot(0))
+    }
+
+    /// Nothing is written from `from` on, behind a room of `room` bytes.
+    fn is_untouched(&self, from: usize, room: usize) -> bool {
+        let behind = &self.buffer[from..room + GUARD];
+        behind.iter().fold(0, |bits, byte| bits | (byte ^ FILL)) == 0
+    }
+
+    fn note(&mut self, fine: bool, rust: impl FnOnce() -> String, ours: impl FnOnce() -> String) {
+        if let Some(trace) = &mut self.trace {
+            let sign = if fine { "  " } else { "! " };
+            trace.push(format!("{sign}the Rust: {}; ours: {}", rust(), ours()));
+        }
+    }
+}
+
+/// A record's buffer is lent with and without bytes to spare.
+fn room_for(part: Part) -> usize {
+    RECORD + (part.position & 1) * GUARD
+}
+
+// ===== Comparing =====
+
+/// What a comparison needs, for one question.
+struct Bench<'a, R> {
+    reader: &'a R,
+    context: &'a EncodingContext,
+    desk: &'a mut Desk,
+    refusals: &'a mut Refusals,
+    map: &'a [u8],
+}
+
+const RULES: [Rules; 3] = [Rules::Stream, Rules::Sequence, Rules::Struct];
+
+fn verdict_of(fine: bool) -> Verdict {
+    if fine {
+        Verdict::Agree
+    } else {
+        Verdict::Differ
+    }
+}
+
+impl<'a, R: Reader> Bench<'a, R> {
+    fn compare(&mut self, question: &Question) -> Verdict {
+        let part = question.part;
+        let fine = match question.ask {
+            Ask::Short(entry, room) => self.short(entry, room, part),
+            // The part of a walk is cut out by the harness, so it is inside.
+            Ask::Walk | Ask::Walked(_) if question.is_outside(self.map) => true,
+            _ if question.is_outside(self.map) => self.outside(question),
+            Ask::Run(rules) => self.run(part, rules),
+            Ask::Batch(rules, room) => self.batch(part, rules, room),
+            Ask::Annotations => self.annotations(part),
+            Ask::StepIn => self.step_in(part),
+            Ask::Scalar => return self.scalar(part),
+            Ask::Number(INT, size) => return self.int(part, size),
+            Ask::Number(form, _) => self.var_number(part, form),
+            Ask::Walk => self.walk(part),
+            Ask::Walked(most) => self.walked(part, most),
+        };
+        verdict_of(fine)
+    }
+
+    fn asked(&self, part: Part) -> Asked<'a> {
+        Asked::new(self.context, self.map, part.position, part.end).expect("the part is inside")
+    }
+
+    fn count(&mut self, expected: &Expected) {
+        if expected.is_refusal() {
+            self.refusals.count(expected.number(), expected.is_own());
+        }
+    }
+
+    /// Compares the record that a call filled, and what it returned.
+    fn check(&mut self, part: Part, room: usize, returned: u64, expected: &Expected) -> bool {
+        self.count(expected);
+        let record = self.desk.record();
+        let fine = returned == expected.returned()
+            && expected.is_met_by(self.map, part, record)
+            && self.desk.is_untouched(RECORD, room);
+        self.desk.note(
+            fine,
+            || expected.written(),
+            || format!("{} returned {returned}", written(record)),
+        );
+        fine
+    }
+
+    fn run(&mut self, part: Part, rules: u64) -> bool {
+        let mut steps = Steps::new(&self.asked(part), RULES[rules as usize]);
+        let mut part = part;
+        // The end and a refusal repeat: each is asked for twice.
+        let mut ends = 0;
+        while ends < 2 {
+            let expected = Expected::item(steps.next());
+            let room = room_for(part);
+            let returned = self
+                .reader
+                .step(self.map, part, rules, self.desk.lend(room));
+            if !self.check(part, room, returned, &expected) {
+                return false;
+            }
+            let next = self
+                .reader
+                .cursor(self.map, part, rules, self.desk.record());
+            if !self.check_cursor(expected.cursor(part.position), next) {
+                return false;
+            }
+            part.position = next;
+            ends += (expected.is_end() || expected.is_refusal()) as usize;
+        }
+        true
+    }
+
+    fn check_cursor(&mut self, wanted: usize, next: usize) -> bool {
+        if next == wanted {
+            return true;
+        }
+        let (rust, ours) = (format!("cursor {wanted}"), format!("cursor {next}"));
+        self.desk.note(false, || rust, || ours);
+        false
+    }
+
+    /// Many steps in a call, beside the Rust's and beside single ones.
+    fn batch(&mut self, part: Part, rules: u64, room: usize) -> bool {
+        let mut count = UNSET;
+        let lent = self.desk.lend(room);
+        let returned = self.reader.steps(self.map, part, rules, lent, &mut count);
+        let mut steps = Steps::new(&self.asked(part), RULES[rules as usize]);
+        let mut part = part;
+        let mut wanted = (0, 0);
+        while (wanted.0 as usize) < room / RECORD {
+            let expected = Expected::item(steps.next());
+            if !self.check_slot(wanted.0 as usize, part, rules, &expected) {
+                return false;
+            }
+            wanted = (wanted.0 + 1, expected.returned());
+            if expected.is_end() || expected.is_refusal() {
+                break;
+            }
+            part.position = expected.cursor(part.position);
+        }
+        let written = wanted.0 as usize * RECORD;
+        let fine = (count, returned) == wanted && self.desk.is_untouched(written, room);
+        self.desk.note(
+            fine,
+            || format!("{} records, returned {}", wanted.0, wanted.1),
+            || format!("{count} records, returned {returned}"),
+        );
+        fine
+    }
+
+    /// One of many records, beside the Rust's answer and a single step's record.
+    fn check_slot(&mut self, index: usize, part: Part, rules: u64, expected: &Expected) -> bool {
+        self.count(expected);
+        let mut single = [0; RECORD];
+        let returned = self.reader.step(self.map, part, rules, &mut single);
+        let record = Record::read(self.desk.slot(index));
+        let fine = record == Record::read(&single)
+            && returned == expected.returned()
+            && expected.is_met_by(self.map, part, record);
+        self.desk
+            .note(fine, || expected.written(), || written(record));
+        fine
+    }
+
+    fn annotations(&mut self, part: Part) -> bool {
+        let mut ids = Annotations::new(self.asked(part).part());
+        let mut part = part;
+        let mut ends = 0;
+        while ends < 2 {
+            let expected = Expected::annotation(part, ids.next());
+            let room = room_for(part);
+            let returned = self.reader.annotation(self.map, part, self.desk.lend(room));
+            if !self.check(part, room, returned, &expected) {
+                return false;
+            }
+            part.position = expected.cursor(part.position);
+            ends += (expected.is_end() || expected.is_refusal()) as usize;
+        }
+        true
+    }
+
+    fn step_in(&mut self, part: Part) -> bool {
+        let expected = match asking::step_in(&self.asked(part), part.position) {
+            Ok(opened) => Expected::opened(opened),
+            Err(refusal) => Expected::refused(refusal),
+        };
+        let room = room_for(part);
+        let returned = self.reader.step_in(self.map, part, self.desk.lend(room));
+        self.check(part, room, returned, &expected)
+    }
+
+    fn scalar(&mut self, part: Part) -> Verdict {
+        let (expected, is_long) = match asking::scalar(&self.asked(part), part.position) {
+            Ok(reading) => (
+                Expected::scalar(self.map, reading),
+                reading.scalar == asking::Scalar::LongInt,
+            ),
+            Err(refusal) => (Expected::refused(refusal), false),
+        };
+        let room = room_for(part);
+        let returned = self.reader.scalar(self.map, part, self.desk.lend(room));
+        match self.check(part, room, returned, &expected) {
+            true if is_long => Verdict::Apart,
+            fine => verdict_of(fine),
+        }
+    }
+
+    fn var_number(&mut self, part: Part, form: u64) -> bool {
+        let asked = self.asked(part).part();
+        let number = if form == VAR_UINT {
+            asking::var_uint(asked)
+        } else {
+            asking::var_int(asked)
+        };
+        let expected = match number {
+            Ok(number) => Expected::var_uint_or_var_int(part, number),
+            Err(refusal) => Expected::refused(refusal),
+        };
+        self.check_number(part, form, 0, &expected)
+    }
+
+    fn int(&mut self, part: Part, size: usize) -> Verdict {
+        let (expected, is_long) = match asking::int(self.asked(part).part(), size) {
+            Ok(Some(number)) => (Expected::int(part, size, number), false),
+            Ok(None) => (Expected::wide_int(self.map, part, size), true),
+            Err(refusal) => (Expected::refused(refusal), false),
+        };
+        match self.check_number(part, INT, size, &expected) {
+            true if is_long => Verdict::Apart,
+            fine => verdict_of(fine),
+        }
+    }
+
+    fn check_number(&mut self, part: Part, form: u64, size: usize, expected: &Expected) -> bool {
+        let room = room_for(part);
+        let lent = self.desk.lend(room);
+        let returned = self.reader.number(self.map, part, form, size, lent);
+        self.check(part, room, returned, expected)
+    }
+
+    fn walk(&mut self, part: Part) -> bool {
+        let mut ours = Walk::new(part);
+        let mut fine = true;
+        asking::walk(&self.asked(part), &mut |line| {
+            if fine {
+                fine = self.check_line(part, line, ours.next(self.reader, self.map));
+            }
+        });
+        fine
+    }
+
+    fn check_line(&mut self, part: Part, rust: Line, ours: Line) -> bool {
+        let fine = match (rust, ours) {
+            (Line::Refused(rust), Line::Refused(ours)) => {
+                self.refusals.count(rust.number as usize, rust.own);
+                rust.number == ours.number && self.is_position(part, rust, ours)
+            }
+            _ => rust == ours,
+        };
+        self.desk
+            .note(fine, || format!("{rust:?}"), || format!("{ours:?}"));
+        fine
+    }
+
+    fn is_position(&self, part: Part, rust: Refusal, ours: Refusal) -> bool {
+        let Some(position) = ours.position else {
+            return false;
+        };
+        if rust.position.is_some() {
+            return rust.position == ours.position;
+        }
+        may_stand(rust.number as u64, self.map, part, position)
+    }
+
+    /// The count is of a whole map, so the part is one.
+    fn walked(&mut self, part: Part, most: u64) -> bool {
+        let mut wanted = 0;
+        asking::walk(&self.asked(part), &mut |line| {
+            wanted += matches!(line, Line::Marker { .. } | Line::Value { .. }) as u64;
+        });
+        let wanted = wanted.min(most);
+        let cut = &self.map[part.position..part.end];
+        let ours = self.reader.walked(cut, most);
+        let fine = ours == wanted;
+        self.desk
+            .note(fine, || wanted.to_string(), || ours.to_string());
+        fine
+    }
+
+    // ===== What the caller does wrong: the harness knows the answer =====
+
+    fn outside(&mut self, question: &Question) -> bool {
+        let expected = Expected::refused(Refusal {
+            number: 50,
+            position: Some(0),
+            own: true,
+        });
+        let part = question.part;
+        let mut count = UNSET;
+        let (entry, kind, size) = match question.ask {
+            Ask::Run(rules) => (Entry::Step, rules, 0),
+            Ask::Batch(rules, _) => (Entry::Steps, rules, 0),
+            Ask::Annotations => (Entry::Annotation, 0, 0),
+            Ask::StepIn => (Entry::StepIn, 0, 0),
+            Ask::Scalar => (Entry::Scalar, 0, 0),
+            Ask::Number(form, size) => (Entry::Number, form, size),
+            Ask::Walk | Ask::Walked(_) | Ask::Short(..) => unreachable!("asked elsewhere"),
+        };
+        let room = room_for(part);
+        let returned = self.call(entry, part, kind, size, room, &mut count);
+        let is_counted = entry != Entry::Steps || count == 1;
+        self.check(part, room, returned, &expected) && is_counted
+    }
+
+    fn short(&mut self, entry: Entry, room: usize, part: Part) -> bool {
+        let mut count = UNSET;
+        let returned = self.call(entry, part, 0, 0, room, &mut count);
+        let is_counted = entry != Entry::Steps || count == 0;
+        self.refusals.count(51, true);
+        let fine = returned == 51 && is_counted && self.desk.is_untouched(0, room);
+        self.desk.note(
+            fine,
+            || "returned 51".to_string(),
+            || format!("returned {returned}"),
+        );
+        fine
+    }
+
+    fn call(
+        &mut self,
+        entry: Entry,
+        part: Part,
+        kind: u64,
+        size: usize,
+        room: usize,
+        count: &mut u64,
+    ) -> u64 {
+        let (reader, map, out) = (self.reader, self.map, self.desk.lend(room));
+        match entry {
+            Entry::Step => reader.step(map, part, kind, out),
+            Entry::Steps => reader.steps(map, part, kind, out, count),
+            Entry::Annotation => reader.annotation(map, part, out),
+            Entry::StepIn => reader.step_in(map, part, out),
+            Entry::Scalar => reader.scalar(map, part, out),
+            Entry::Number => reader.number(map, part, kind, size, out),
+        }
+    }
+}
+
+fn written(record: Record) -> String {
+    let words: Vec<String> = record.0.iter().map(|word| word.to_string()).collect();
+    words.join(" ")
+}

@@ -1,0 +1,157 @@
+//! Asks our reader and the Rust's the same questions and compares every answer.
+//!
+//! `compare [--short] [SEED]` compares; `compare --wrong` shows that wrong readers are noticed;
+//! `compare --corpus FOLDER` writes maps for the fuzzer to begin with.
+
+mod expected;
+mod inputs;
+mod judge;
+#[allow(dead_code)]
+#[path = "../generate/maps.rs"]
+mod maps;
+mod ours;
+mod question;
+mod session;
+mod shrink;
+mod walking;
+mod wrong;
+
+use inputs::{ask_all, seeds, Plan, FULL, SHORT, SMALLEST};
+use ours::{Exports, Reader, MISSING};
+use question::KINDS;
+use session::{grouped, Session};
+use std::process::exit;
+use std::time::Instant;
+use wrong::{Mistake, Wrong, MISTAKES};
+
+/// The refusals that a comparison must have met.
+const REFUSALS: [std::ops::RangeInclusive<usize>; 3] = [1..=9, 20..=37, 50..=52];
+
+fn main() {
+    session::keep_panics();
+    let arguments: Vec<String> = std::env::args().skip(1).collect();
+    let words: Vec<&str> = arguments.iter().map(String::as_str).collect();
+    match words[..] {
+        [] => compare(FULL, 1),
+        ["--short"] => compare(SHORT, 1),
+        ["--wrong"] => show_wrong(),
+        ["--corpus", folder] => write_corpus(folder),
+        ["--short", seed] => compare(SHORT, number(seed)),
+        [seed] => compare(FULL, number(seed)),
+        _ => usage(),
+    }
+}
+
+fn number(word: &str) -> u64 {
+    word.parse().unwrap_or_else(|_| usage())
+}
+
+fn usage() -> ! {
+    eprintln!("usage: compare [--short] [SEED], compare --wrong, or compare --corpus FOLDER");
+    exit(2)
+}
+
+fn compare(plan: Plan, seed: u64) {
+    let started = Instant::now();
+    let mut session = Session::new(Exports);
+    ask_all(&mut session, plan, seed);
+    report(&mut session);
+    println!("seed {seed}, {} s", started.elapsed().as_secs());
+    let tally = &session.judge.tally;
+    let (cases, differ) = (tally.cases(), tally.differ);
+    let missing = missing_refusals(&tally.refusals.all);
+    for number in &missing {
+        println!("no refusal {number} was met");
+    }
+    for name in MISSING {
+        println!("not in the archive, so not compared: {name}");
+    }
+    println!("{} cases agree, {differ} differ", grouped(cases));
+    exit((differ > 0 || !missing.is_empty() || !MISSING.is_empty()) as i32)
+}
+
+fn missing_refusals(met: &[u64; 64]) -> Vec<usize> {
+    REFUSALS
+        .into_iter()
+        .flatten()
+        .filter(|number| met[*number] == 0)
+        .collect()
+}
+
+fn listed(counts: &[u64; 64]) -> String {
+    let numbers = REFUSALS.into_iter().flatten();
+    let word = |number: usize| match counts[number] {
+        0 => String::new(),
+        count => format!("{number}:{count} "),
+    };
+    numbers.map(word).collect()
+}
+
+fn report<R: Reader>(session: &mut Session<R>) {
+    println!("cases that agree:");
+    let tally = session.judge.tally.clone();
+    for (kind, agreed) in KINDS.iter().zip(tally.agreed) {
+        println!("{:>13}  {kind}", grouped(agreed));
+    }
+    println!(
+        "{:>13}  ints and Ints of more than 15 bytes, by the Ion document alone",
+        grouped(tally.apart)
+    );
+    println!("by input:");
+    for pair in session.stages.windows(2) {
+        let [(name, began, before), (_, ended, after)] = [pair[0], pair[1]];
+        let seconds = (ended - began).as_secs_f32();
+        println!("{:>13}  {name}, {seconds:.1} s", grouped(after - before));
+    }
+    println!("refusals met (number:times):");
+    println!("  {}", listed(&tally.refusals.all));
+    println!("of these, not the Rust's but the harness's answers:");
+    println!("  {}", listed(&tally.refusals.own));
+    for case in session.differences() {
+        println!("differs: {}", session.written(&case));
+    }
+}
+
+// ===== Wrong readers =====
+
+/// Runs each wrong reader until it is noticed, and our own in the same layer, which must not be.
+fn show_wrong() {
+    let mut ours = Session::quiet(Wrong::new(Mistake::Nothing));
+    ask_all(&mut ours, SMALLEST, 1);
+    let tally = &ours.judge.tally;
+    println!(
+        "our reader: {} cases agree, {} differ",
+        grouped(tally.cases()),
+        tally.differ
+    );
+    let is_right = tally.differ == 0;
+    let noticed = MISTAKES
+        .iter()
+        .filter(|(mistake, text)| notice(*mistake, text))
+        .count();
+    println!("{noticed} of {} noticed", MISTAKES.len());
+    exit((noticed < MISTAKES.len() || !is_right) as i32)
+}
+
+fn notice(mistake: Mistake, text: &str) -> bool {
+    let mut session = Session::quiet(Wrong::new(mistake));
+    ask_all(&mut session, SMALLEST, 1);
+    let differences = session.differences();
+    match differences.first() {
+        Some(case) => println!("noticed: {text}: {}", case.question.written(&case.map)),
+        None => println!("NOT NOTICED: {text}"),
+    }
+    !differences.is_empty()
+}
+
+// ===== The fuzzer's first maps =====
+
+fn write_corpus(folder: &str) {
+    for (number, map) in seeds(&mut maps::Random(1), 600).iter().enumerate() {
+        let file = format!("{folder}/map-{number}");
+        if let Err(error) = std::fs::write(&file, map) {
+            eprintln!("{file}: {error}");
+            exit(1)
+        }
+    }
+}

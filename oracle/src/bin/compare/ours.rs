@@ -1,0 +1,250 @@
+//! Our reader: the functions that `libmaps.a` exports, and the layer through which they are asked.
+
+/// The bytes of a record.
+pub const RECORD: usize = 64;
+
+mod exported {
+    extern "C" {
+        pub fn ion_map_step(
+            map: *const u8,
+            length: usize,
+            start: usize,
+            end: usize,
+            position: usize,
+            kind: u64,
+            out: *mut u8,
+            room: usize,
+        ) -> u64;
+        pub fn ion_map_steps(
+            map: *const u8,
+            length: usize,
+            start: usize,
+            end: usize,
+            position: usize,
+            kind: u64,
+            out: *mut u8,
+            room: usize,
+            count: *mut u64,
+        ) -> u64;
+        pub fn ion_map_annotation(
+            map: *const u8,
+            length: usize,
+            start: usize,
+            end: usize,
+            position: usize,
+            out: *mut u8,
+            room: usize,
+        ) -> u64;
+        pub fn ion_map_step_in(
+            map: *const u8,
+            length: usize,
+            start: usize,
+            end: usize,
+            position: usize,
+            out: *mut u8,
+            room: usize,
+        ) -> u64;
+        pub fn ion_map_scalar(
+            map: *const u8,
+            length: usize,
+            start: usize,
+            end: usize,
+            position: usize,
+            out: *mut u8,
+            room: usize,
+        ) -> u64;
+        pub fn ion_map_number(
+            map: *const u8,
+            length: usize,
+            start: usize,
+            end: usize,
+            position: usize,
+            form: u64,
+            size: usize,
+            out: *mut u8,
+            room: usize,
+        ) -> u64;
+        pub fn ion_map_walked(map: *const u8, length: usize, most: u64) -> u64;
+    }
+}
+
+/// Written by `build.rs`: the names of the functions that the archive hasn't got.
+mod absent {
+    include!(concat!(env!("OUT_DIR"), "/missing.rs"));
+}
+pub use absent::MISSING;
+
+/// A part of the map and a position in it, as every entry takes them.
+#[derive(Clone, Copy, Debug, PartialEq)]
+pub struct Part {
+    pub start: usize,
+    pub end: usize,
+    pub position: usize,
+}
+
+impl Part {
+    pub fn whole(map: &[u8]) -> Self {
+        Part {
+            start: 0,
+            end: map.len(),
+            position: 0,
+        }
+    }
+
+    pub fn at(self, position: usize) -> Self {
+        Part { position, ..self }
+    }
+
+    /// The caller's duty: all else is refusal 50.
+    pub fn is_inside(self, map: &[u8]) -> bool {
+        self.start <= self.position && self.position <= self.end && self.end <= map.len()
+    }
+}
+
+/// Eight words.
+#[derive(Clone, Copy, Debug, PartialEq)]
+pub struct Record(pub [u64; 8]);
+
+impl Record {
+    pub fn read(bytes: &[u8]) -> Self {
+        let mut words = [0; 8];
+        for (word, bytes) in words.iter_mut().zip(bytes.chunks_exact(8)) {
+            *word = u64::from_le_bytes(bytes.try_into().expect("eight bytes"));
+        }
+        Record(words)
+    }
+
+    pub fn write(self, bytes: &mut [u8]) {
+        for (bytes, word) in bytes.chunks_exact_mut(8).zip(self.0) {
+            bytes.copy_from_slice(&word.to_le_bytes());
+        }
+    }
+
+    pub fn kind(self) -> u64 {
+        self.0[0]
+    }
+
+    /// A non-null container's, so that there is a body to step into.
+    pub fn is_open(self) -> bool {
+        let [kind, byte, ..] = self.0;
+        (kind == 2 || kind == 3) && (11..=13).contains(&(byte >> 4)) && byte & 15 != 15
+    }
+}
+
+/// What is asked. The exports are one reader, each wrong reader is another.
+pub trait Reader {
+    fn step(&self, map: &[u8], part: Part, kind: u64, out: &mut [u8]) -> u64;
+    fn steps(&self, map: &[u8], part: Part, kind: u64, out: &mut [u8], count: &mut u64) -> u64;
+    fn annotation(&self, map: &[u8], part: Part, out: &mut [u8]) -> u64;
+    fn step_in(&self, map: &[u8], part: Part, out: &mut [u8]) -> u64;
+    fn scalar(&self, map: &[u8], part: Part, out: &mut [u8]) -> u64;
+    fn number(&self, map: &[u8], part: Part, form: u64, size: usize, out: &mut [u8]) -> u64;
+    fn walked(&self, map: &[u8], most: u64) -> u64;
+
+    /// The cursor for the next call: past an item, at the end, and after a refusal the one given.
+    fn cursor(&self, _map: &[u8], part: Part, _kind: u64, record: Record) -> usize {
+        match record.kind() {
+            0 => record.0[2] as usize,
+            9 => part.position,
+            _ => record.0[6] as usize,
+        }
+    }
+}
+
+pub struct Exports;
+
+// Each call lends the map and the buffer for its own length, and nothing is kept.
+impl Reader for Exports {
+    fn step(&self, map: &[u8], part: Part, kind: u64, out: &mut [u8]) -> u64 {
+        unsafe {
+            exported::ion_map_step(
+                map.as_ptr(),
+                map.len(),
+                part.start,
+                part.end,
+                part.position,
+                kind,
+                out.as_mut_ptr(),
+                out.len(),
+            )
+        }
+    }
+
+    fn steps(&self, map: &[u8], part: Part, kind: u64, out: &mut [u8], count: &mut u64) -> u64 {
+        unsafe {
+            exported::ion_map_steps(
+                map.as_ptr(),
+                map.len(),
+                part.start,
+                part.end,
+                part.position,
+                kind,
+                out.as_mut_ptr(),
+                out.len(),
+                count,
+            )
+        }
+    }
+
+    fn annotation(&self, map: &[u8], part: Part, out: &mut [u8]) -> u64 {
+        unsafe {
+            exported::ion_map_annotation(
+                map.as_ptr(),
+                map.len(),
+                part.start,
+                part.end,
+                part.position,
+                out.as_mut_ptr(),
+                out.len(),
+            )
+        }
+    }
+
+    fn step_in(&self, map: &[u8], part: Part, out: &mut [u8]) -> u64 {
+        unsafe {
+            exported::ion_map_step_in(
+                map.as_ptr(),
+                map.len(),
+                part.start,
+                part.end,
+                part.position,
+                out.as_mut_ptr(),
+                out.len(),
+            )
+        }
+    }
+
+    fn scalar(&self, map: &[u8], part: Part, out: &mut [u8]) -> u64 {
+        unsafe {
+            exported::ion_map_scalar(
+                map.as_ptr(),
+                map.len(),
+                part.start,
+                part.end,
+                part.position,
+                out.as_mut_ptr(),
+                out.len(),
+            )
+        }
+    }
+
+    fn number(&self, map: &[u8], part: Part, form: u64, size: usize, out: &mut [u8]) -> u64 {
+        unsafe {
+            exported::ion_map_number(
+                map.as_ptr(),
+                map.len(),
+                part.start,
+                part.end,
+                part.position,
+                form,
+                size,
+                out.as_mut_ptr(),
+                out.len(),
+            )
+        }
+    }
+
+    fn walked(&self, map: &[u8], most: u64) -> u64 {
+        unsafe { exported::ion_map_walked(map.as_ptr(), map.len(), most) }
+    }
+}

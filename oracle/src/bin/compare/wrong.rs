@@ -1,0 +1,594 @@
+//! Wrong readers, to show that the comparison notices them: each is our reader with one answer
+//! changed, as a reader that makes this mistake would answer.
+
+use crate::ours::{Exports, Part, Reader, Record, RECORD};
+use crate::question::{INT, SEQUENCE, STREAM, STRUCT, VAR_INT};
+use crate::walking::Walk;
+use oracle::asking::{Line, DEPTH_LIMIT};
+use std::cell::Cell;
+
+macro_rules! mistakes {
+    ($($name:ident $text:literal)*) => {
+        #[derive(Clone, Copy, Debug, PartialEq)]
+        pub enum Mistake {
+            /// The layer alone, which must not be noticed.
+            Nothing,
+            $($name),*
+        }
+
+        /// Every mistake, and what the reader does that makes it.
+        pub const MISTAKES: &[(Mistake, &str)] = &[$((Mistake::$name, $text)),*];
+    };
+}
+
+mistakes! {
+    // The lazy ones.
+    EndAfterFirst "steps the first item and then says end"
+    EndAtOnce "says end before it looks"
+    CutAtOnce "says cut short before it looks"
+    RefusesAll "refuses each map"
+    SameSpan "hands out the same span for each map"
+    Untouched "leaves the record untouched"
+    MadeUpEnd "makes the end's position up"
+    // Wrong readings that come easily.
+    PadsPassed "moves past pads when the item after them is refused"
+    TenBytesEarly "refuses a 10-byte VarUInt before its end is seen"
+    OrderedPad "takes pad code 1 as ordered"
+    LongFloat "reads 4E 84 as a 4-byte float"
+    FieldLost "loses the field ID from the span"
+    PadWithoutId "loses the field ID of a pad: none is read before the next value"
+    // Framing.
+    OffByOne "puts the position of an incomplete refusal one further"
+    WrittenOffByOne "puts the position of a refused value one further"
+    Annotations254 "refuses 255 bytes of annotations"
+    Annotations256 "takes 256 bytes of annotations"
+    WrapperUnchecked "doesn't compare the wrapper's length with its value's"
+    WrapperByte "gives the wrapper's byte for the value's"
+    AnnotationsStart "lets the annotations begin at the wrapper"
+    PastPart "tests a value against the slice and not the part"
+    MarkerInBody "takes E0 in a body for a marker"
+    OneMarker "takes only the marker of version 1.0"
+    AnyMarker "takes a marker without EA"
+    EmptyOrdered "takes an empty ordered struct"
+    OrderedOne "takes struct code 1 as the length 1"
+    Plain14 "takes code 14 as the length 14"
+    Plain15 "takes code 15 as the length 15"
+    BoolLength "takes a bool's code as a length"
+    ShortTimestamp "takes a timestamp of one byte"
+    PadInSpan "counts the pads before a value to its span"
+    CutPad "says end at a pad that is cut short"
+    FieldAlone "says end at a field ID with nothing after it"
+    RefusedOnce "says end when asked again after a refusal"
+    // Numbers.
+    EightBytes "refuses a VarUInt of 9 bytes"
+    TenBytes "takes a VarUInt of 10 bytes"
+    PositiveZero "reads the VarInt C0 as positive"
+    SignInMagnitude "counts a VarInt's sign bit to its magnitude"
+    IntSignKept "keeps an Int's sign bit in its first bits"
+    CutInt "puts the refusal of a short Int at the part's end"
+    IdAtEnd "says end at an annotation that is cut short"
+    // Scalars.
+    QuietNan "sets the quiet bit of an 8-byte NaN"
+    MinusZero "reads the float -0 as 0"
+    NarrowFloat "gives a 4-byte float's own bits"
+    NegativeZero "reads a negative int of zero"
+    SignLost "reads a negative int as positive"
+    LeadingZeros "keeps the leading zeros of a magnitude"
+    BoolTwo "reads the bool 12 as true"
+    WideSymbol "reads a symbol of 9 bytes"
+    SwappedSymbol "reads a symbol's bytes from the last"
+    BadText "takes any bytes as text"
+    Surrogates "takes surrogates in UTF-8"
+    NullContainer "calls a null list a container"
+    PadEntry "steps over a pad where a value is to begin"
+    // Stepping in.
+    NullEntered "steps into a null list"
+    ScalarEntered "steps into a string"
+    SexpAsStruct "reads the body of a sexp as fields"
+    OrderedBody "lets the body of an ordered struct begin at its length"
+    // Many steps, the buffer and the caller.
+    OneStep "does one step where there is room for more"
+    StepsOn "goes on after the end"
+    CountOff "counts one record too many"
+    TailWritten "writes behind the record"
+    ShortWritten "writes into a short buffer"
+    OutsideFirst "tests the part before the buffer"
+    KindThree "takes part kind 3 as a struct's"
+    PositionBehind "takes a position behind the part as its end"
+    // The walk.
+    Depth31 "walks to depth 31"
+    Depth33 "walks to depth 33"
+    EndCounted "counts the walk's end as an item"
+}
+
+pub struct Wrong {
+    mistake: Mistake,
+    /// The call that was refused last.
+    refused: Cell<Option<(usize, Part, u64)>>,
+}
+
+impl Wrong {
+    pub fn new(mistake: Mistake) -> Self {
+        Wrong {
+            mistake,
+            refused: Cell::new(None),
+        }
+    }
+
+    fn is(&self, mistake: Mistake) -> bool {
+        self.mistake == mistake
+    }
+}
+
+// ===== Changing a record =====
+
+fn put(out: &mut [u8], words: [u64; 8]) -> u64 {
+    Record(words).write(&mut out[..RECORD]);
+    if words[0] == 9 {
+        words[1]
+    } else {
+        0
+    }
+}
+
+fn end(out: &mut [u8], position: usize) -> u64 {
+    put(out, [0, 0, position as u64, 0, 0, 0, 0, 0])
+}
+
+fn refuse(out: &mut [u8], number: u64, position: usize) -> u64 {
+    put(out, [9, number, position as u64, 0, 0, 0, 0, 0])
+}
+
+/// A value without annotations whose body has `length` bytes, or 8.
+fn value(map: &[u8], part: Part, at: usize, body: usize, length: usize, out: &mut [u8]) -> u64 {
+    if body > part.end || part.end - body < length {
+        return refuse(out, 8, at);
+    }
+    let (at, body, end) = (at as u64, body as u64, (body + length) as u64);
+    put(out, [2, map[at as usize] as u64, at, at, at, body, end, 0])
+}
+
+/// The byte at which a call steps, where that is simply the byte at the cursor.
+fn first_byte(map: &[u8], part: Part, kind: u64) -> Option<u8> {
+    let is_simple = part.is_inside(map) && part.position < part.end && kind < STRUCT;
+    is_simple.then(|| map[part.position])
+}
+
+/// Where the VarUInt at `at` ends, and what it is.
+fn var_uint(map: &[u8], at: usize, end: usize) -> Option<(usize, usize)> {
+    let mut number = 0usize;
+    for next in at..end {
+        number = number.wrapping_shl(7) | (map[next] & 0x7F) as usize;
+        if map[next] >= 0x80 {
+            return Some((number, next + 1));
+        }
+    }
+    None
+}
+
+/// Where the annotations and the value of the wrapper at `at` begin.
+fn inside_wrapper(map: &[u8], at: usize, end: usize) -> Option<(usize, usize)> {
+    let lengths = match map[at] & 15 {
+        14 => var_uint(map, at + 1, end)?.1,
+        _ => at + 1,
+    };
+    let (size, start) = var_uint(map, lengths, end)?;
+    Some((start, start + size))
+}
+
+/// The ten bytes before a part's end have no last byte.
+fn is_long_and_open(map: &[u8], part: Part) -> bool {
+    part.end - part.position >= 10 && map[part.end - 10..part.end].iter().all(|byte| *byte < 0x80)
+}
+
+impl Wrong {
+    /// A step of the kinds of mistake that answer without looking at the true answer.
+    fn instead(&self, map: &[u8], part: Part, kind: u64, out: &mut [u8]) -> Option<u64> {
+        if out.len() < RECORD || !part.is_inside(map) || kind > STRUCT {
+            return None;
+        }
+        let Part {
+            end: last,
+            position: at,
+            ..
+        } = part;
+        let byte = first_byte(map, part, kind);
+        let code = byte.map(|byte| (byte >> 4, (byte & 15) as usize));
+        match (self.mistake, code) {
+            (Mistake::EndAfterFirst, _) if at > part.start => Some(end(out, last)),
+            (Mistake::EndAtOnce, _) => Some(end(out, last)),
+            (Mistake::CutAtOnce, _) => Some(refuse(out, 3, last)),
+            (Mistake::RefusesAll, _) => Some(refuse(out, 8, at)),
+            (Mistake::SameSpan, _) => Some(put(out, [2, 0x20, 0, 0, 0, 1, 1, 0])),
+            (Mistake::Untouched, _) => Some(0),
+            (Mistake::OrderedPad, Some((0, 1))) => {
+                let mut map = map.to_vec();
+                map[at] = 0x0E;
+                Some(Exports.step(&map, part, kind, out))
+            }
+            (Mistake::OrderedOne, Some((13, 1))) => Some(value(map, part, at, at + 1, 1, out)),
+            (Mistake::Plain14, Some((2..=13, 14))) => Some(value(map, part, at, at + 1, 14, out)),
+            (Mistake::Plain15, Some((2..=13, 15))) => Some(value(map, part, at, at + 1, 15, out)),
+            (Mistake::BoolLength, Some((1, size @ 0..=13))) => {
+                Some(value(map, part, at, at + 1, size, out))
+            }
+            (Mistake::PastPart, _) => {
+                let longer = Part {
+                    end: map.len(),
+                    ..part
+                };
+                Some(Exports.step(map, longer, kind, out))
+            }
+            (Mistake::PadWithoutId, _) if kind == STRUCT => self.pad_without_id(map, part, out),
+            (Mistake::RefusedOnce, _) => {
+                let call = Some((map.as_ptr() as usize, part, kind));
+                (self.refused.replace(None) == call).then(|| end(out, last))
+            }
+            _ => None,
+        }
+    }
+
+    fn pad_without_id(&self, map: &[u8], part: Part, out: &mut [u8]) -> Option<u64> {
+        let (id, pad) = var_uint(map, part.position, part.end)?;
+        if pad == part.end || map[pad] >= 0x0F {
+            return None;
+        }
+        let returned = Exports.step(map, part.at(pad), SEQUENCE, out);
+        let mut words = Record::read(out).0;
+        if words[0] == 2 {
+            (words[0], words[7]) = (3, id as u64);
+            put(out, words);
+        }
+        Some(returned)
+    }
+
+    /// A step's answer changed.
+    fn changed(&self, map: &[u8], part: Part, kind: u64, out: &mut [u8], returned: u64) -> u64 {
+        let words = Record::read(out).0;
+        match words[0] {
+            9 => self.changed_refusal(map, part, kind, out, returned),
+            0 if self.is(Mistake::MadeUpEnd) => end(out, part.position),
+            1 => self.changed_marker(out, words),
+            2 | 3 => self.changed_value(map, part, out, words),
+            _ => returned,
+        }
+    }
+
+    fn changed_marker(&self, out: &mut [u8], words: [u64; 8]) -> u64 {
+        let [_, _, start, major, minor, ..] = words;
+        if self.is(Mistake::OneMarker) && (major, minor) != (1, 0) {
+            return refuse(out, 21, start as usize);
+        }
+        0
+    }
+
+    fn changed_value(&self, map: &[u8], part: Part, out: &mut [u8], words: [u64; 8]) -> u64 {
+        let [kind, _, start, annotations, descriptor, ..] = words;
+        let has_annotations = annotations < descriptor;
+        let mut new = words;
+        match self.mistake {
+            Mistake::FieldLost if kind == 3 && !has_annotations => new[2] = descriptor,
+            Mistake::WrapperByte if has_annotations && kind == 2 => {
+                new[1] = map[start as usize] as u64
+            }
+            Mistake::AnnotationsStart if has_annotations => new[3] = start,
+            Mistake::PadInSpan if kind == 2 => new[2] = part.position as u64,
+            Mistake::Annotations254 if descriptor - annotations == 255 => {
+                return refuse(out, 26, start as usize)
+            }
+            Mistake::EightBytes if kind == 3 && descriptor - start == 9 && !has_annotations => {
+                return refuse(out, 20, start as usize)
+            }
+            _ => {}
+        }
+        put(out, new)
+    }
+
+    fn changed_refusal(
+        &self,
+        map: &[u8],
+        part: Part,
+        kind: u64,
+        out: &mut [u8],
+        returned: u64,
+    ) -> u64 {
+        self.refused.set(Some((map.as_ptr() as usize, part, kind)));
+        let at = Record::read(out).0[2] as usize;
+        let next = map.get(at + 1).copied();
+        match (self.mistake, returned) {
+            (Mistake::OffByOne, 1..=9) => refuse(out, returned, at + 1),
+            (Mistake::WrittenOffByOne, 23..=36) => refuse(out, returned, at + 1),
+            (Mistake::TenBytesEarly, 3) if is_long_and_open(map, part) => refuse(out, 20, at - 10),
+            (Mistake::LongFloat, 30) if map[at] == 0x4E && next == Some(0x84) => {
+                value(map, part, at, at + 2, 4, out)
+            }
+            (Mistake::EmptyOrdered, 32) => value(map, part, at, at + 2, 0, out),
+            (Mistake::ShortTimestamp, 31) if map[at] == 0x61 => {
+                value(map, part, at, at + 1, 1, out)
+            }
+            (Mistake::MarkerInBody, 22) if map[at] == 0xE0 => {
+                Exports.step(map, part.at(at), STREAM, out)
+            }
+            (Mistake::AnyMarker, 21) => {
+                let [major, minor] = [map[at + 1] as u64, map[at + 2] as u64];
+                let (start, end) = (at as u64, at as u64 + 4);
+                put(out, [1, 224, start, major, minor, end, end, 0])
+            }
+            (Mistake::CutPad, 6) | (Mistake::FieldAlone, 7) => end(out, part.end),
+            (Mistake::WrapperUnchecked, 29) | (Mistake::Annotations256, 26) => {
+                self.unwrapped(map, part, at, out, returned)
+            }
+            _ => returned,
+        }
+    }
+
+    /// The value in the wrapper at `at`, handed out though the wrapper is refused.
+    fn unwrapped(&self, map: &[u8], part: Part, at: usize, out: &mut [u8], returned: u64) -> u64 {
+        let Some((annotations, inner)) = inside_wrapper(map, at, part.end) else {
+            return returned;
+        };
+        if self.is(Mistake::Annotations256) && inner - annotations != 256 {
+            return returned;
+        }
+        let returned = Exports.step(map, part.at(inner), SEQUENCE, out);
+        let mut words = Record::read(out).0;
+        if words[0] == 2 {
+            (words[2], words[3]) = (at as u64, annotations as u64);
+            put(out, words);
+        }
+        returned
+    }
+
+    fn changed_scalar(&self, map: &[u8], part: Part, out: &mut [u8], returned: u64) -> u64 {
+        let words = Record::read(out).0;
+        if words[0] == 9 {
+            return self.read_though_refused(map, part, out, returned);
+        }
+        let [_, byte, descriptor, what, number, ..] = words;
+        let body = descriptor + 1;
+        let mut new = words;
+        match (self.mistake, what) {
+            (Mistake::QuietNan, 3) if f64::from_bits(number).is_nan() => new[4] |= 1 << 51,
+            (Mistake::MinusZero, 3) if number == 1 << 63 => new[4] = 0,
+            (Mistake::NarrowFloat, 3) if byte == 0x44 => {
+                new[4] = (f64::from_bits(number) as f32).to_bits() as u64
+            }
+            (Mistake::SignLost, 2) => new[4] = 0,
+            (Mistake::LeadingZeros, 2) if byte & 15 < 14 => new[5] = body,
+            (Mistake::SwappedSymbol, 6) if byte & 15 < 14 && byte & 15 > 0 => {
+                new[4] = number.swap_bytes() >> (64 - 8 * (byte & 15))
+            }
+            (Mistake::NullContainer, 0) if byte == 0xBF => new[3] = 10,
+            _ => {}
+        }
+        put(out, new)
+    }
+
+    fn read_though_refused(&self, map: &[u8], part: Part, out: &mut [u8], returned: u64) -> u64 {
+        let at = Record::read(out).0[2] as usize;
+        let Some(byte) = map.get(at).map(|byte| *byte as u64) else {
+            return returned;
+        };
+        let (start, size) = (at as u64 + 1, byte & 15);
+        let read = |what, number, start, end| [7, byte, at as u64, what, number, start, end, 0];
+        match (self.mistake, returned) {
+            (Mistake::NegativeZero, 34) if size < 14 => {
+                put(out, read(2, 1, start + size, start + size))
+            }
+            (Mistake::BoolTwo, 33) if byte == 0x12 => put(out, read(1, 1, start, start)),
+            (Mistake::WideSymbol, 35) if byte == 0x79 => {
+                let eight = &map[at + 2..at + 10];
+                let id = u64::from_be_bytes(eight.try_into().expect("eight bytes"));
+                put(out, read(6, id, start, start))
+            }
+            (Mistake::BadText, 36) if size < 14 => put(out, read(7, 0, start, start + size)),
+            (Mistake::Surrogates, 36) if byte == 0x83 && map[at + 1] == 0xED => {
+                put(out, read(7, 0, start, start + size))
+            }
+            (Mistake::PadEntry, 22) if byte < 0x0E && part.end > at + 1 + size as usize => {
+                Exports.scalar(map, part.at(at + 1 + size as usize), out)
+            }
+            _ => returned,
+        }
+    }
+
+    fn changed_number(&self, map: &[u8], part: Part, form: u64, out: &mut [u8], given: u64) -> u64 {
+        let mut words = Record::read(out).0;
+        let [kind, _, start, _, _, _, end, _] = words;
+        let first = map.get(part.position).copied().unwrap_or(0);
+        match (self.mistake, kind) {
+            (Mistake::EightBytes, 8) if form < INT && end - start == 9 => {
+                return refuse(out, 20, part.position)
+            }
+            (Mistake::PositiveZero, 8) if form == VAR_INT && words[3] == 0 => words[1] = 0,
+            (Mistake::SignInMagnitude, 8) if form == VAR_INT && end - start == 1 => {
+                words[3] = (first & 0x7F) as u64
+            }
+            (Mistake::IntSignKept, 8) if form == INT && end > start => words[3] = first as u64,
+            (Mistake::TenBytesEarly, 9) if given == 3 && is_long_and_open(map, part) => {
+                return refuse(out, 20, part.position)
+            }
+            (Mistake::TenBytes, 9) if given == 20 && form < VAR_INT => {
+                let Some((number, next)) = var_uint(map, part.position, part.end) else {
+                    return given;
+                };
+                let (at, next) = (part.position as u64, next as u64);
+                words = [8, 0, at, number as u64, 0, next, next, 0];
+            }
+            (Mistake::CutInt, 9) if given == 9 => return refuse(out, 9, part.end),
+            _ => return given,
+        }
+        put(out, words)
+    }
+
+    /// The items of the walk with another limit.
+    fn counted(&self, map: &[u8], most: u64, limit: usize) -> u64 {
+        let mut walk = Walk::limited(Part::whole(map), limit);
+        let mut count = 0;
+        while count < most {
+            match walk.next(&Exports, map) {
+                Line::Marker { .. } | Line::Value { .. } => count += 1,
+                Line::End(_) | Line::Refused(_) => break,
+            }
+        }
+        count
+    }
+
+    /// Where the pads at the cursor end, where that is simple to say.
+    fn past_pads(&self, map: &[u8], part: Part) -> usize {
+        let mut at = part.position;
+        while at < part.end && map[at] < 0x0E && at + 1 + map[at] as usize <= part.end {
+            at += 1 + map[at] as usize;
+        }
+        at
+    }
+
+    /// The mistakes with the buffer and the arguments, which every entry of one part has.
+    fn with_arguments(
+        &self,
+        map: &[u8],
+        part: Part,
+        out: &mut [u8],
+        call: impl FnOnce(Part, &mut [u8]) -> u64,
+    ) -> u64 {
+        if self.is(Mistake::OutsideFirst) && out.len() < RECORD && !part.is_inside(map) {
+            return 50;
+        }
+        let is_behind = part.position > part.end && part.start <= part.end && part.end <= map.len();
+        let part = match self.mistake {
+            Mistake::PositionBehind if is_behind => part.at(part.end),
+            _ => part,
+        };
+        let returned = call(part, out);
+        match (self.mistake, out.len()) {
+            (Mistake::TailWritten, 65..) => out[RECORD] = 0,
+            (Mistake::ShortWritten, 1..RECORD) => out[0] = 9,
+            _ => {}
+        }
+        returned
+    }
+}
+
+impl Reader for Wrong {
+    fn step(&self, map: &[u8], part: Part, kind: u64, out: &mut [u8]) -> u64 {
+        let kind = match (self.mistake, kind) {
+            (Mistake::KindThree, 3) => STRUCT,
+            _ => kind,
+        };
+        self.with_arguments(map, part, out, |part, out| {
+            if let Some(returned) = self.instead(map, part, kind, out) {
+                return returned;
+            }
+            let returned = Exports.step(map, part, kind, out);
+            match returned {
+                50 | 51 => returned,
+                _ => self.changed(map, part, kind, out, returned),
+            }
+        })
+    }
+
+    fn steps(&self, map: &[u8], part: Part, kind: u64, out: &mut [u8], count: &mut u64) -> u64 {
+        let mut returned = Exports.steps(map, part, kind, out, count);
+        if returned == 50 || returned == 51 {
+            return returned;
+        }
+        // Single steps, so that only mistakes of this entry's own differ from those.
+        let most = match self.mistake {
+            Mistake::OneStep => 1,
+            _ => out.len() / RECORD,
+        };
+        let (mut written, mut part) = (0, part);
+        while written < most {
+            let slot = &mut out[written * RECORD..(written + 1) * RECORD];
+            returned = self.step(map, part, kind, slot);
+            let record = Record::read(slot);
+            written += 1;
+            part.position = self.cursor(map, part, kind, record);
+            let is_end = record.kind() == 0;
+            if record.kind() == 9 || is_end && !self.is(Mistake::StepsOn) {
+                break;
+            }
+        }
+        *count = written as u64 + self.is(Mistake::CountOff) as u64;
+        returned
+    }
+
+    fn annotation(&self, map: &[u8], part: Part, out: &mut [u8]) -> u64 {
+        self.with_arguments(map, part, out, |part, out| {
+            let returned = Exports.annotation(map, part, out);
+            match (self.mistake, returned) {
+                (Mistake::IdAtEnd, 3) => end(out, part.end),
+                (Mistake::TenBytesEarly, 3) if is_long_and_open(map, part) => {
+                    refuse(out, 20, part.position)
+                }
+                _ => returned,
+            }
+        })
+    }
+
+    fn step_in(&self, map: &[u8], part: Part, out: &mut [u8]) -> u64 {
+        self.with_arguments(map, part, out, |part, out| {
+            let returned = Exports.step_in(map, part, out);
+            if returned == 51 {
+                return returned;
+            }
+            let mut words = Record::read(out).0;
+            let at = words[2] as usize;
+            let byte = map.get(at).copied().unwrap_or(0);
+            let opened = |start, end| [6, 1, at as u64, 0, 0, start, end, 0];
+            let body = at as u64 + 1;
+            match (self.mistake, returned) {
+                (Mistake::NullEntered, 52) if byte == 0xBF => put(out, opened(body, body)),
+                (Mistake::ScalarEntered, 52) if byte >> 4 == 8 && byte & 15 < 14 => {
+                    put(out, opened(body, body + (byte & 15) as u64))
+                }
+                (Mistake::SexpAsStruct, 0) if byte >> 4 == 12 => {
+                    words[1] = 2;
+                    put(out, words)
+                }
+                (Mistake::OrderedBody, 0) if byte == 0xD1 => {
+                    words[5] = body;
+                    put(out, words)
+                }
+                _ => returned,
+            }
+        })
+    }
+
+    fn scalar(&self, map: &[u8], part: Part, out: &mut [u8]) -> u64 {
+        self.with_arguments(map, part, out, |part, out| {
+            let returned = Exports.scalar(map, part, out);
+            match returned {
+                50 | 51 => returned,
+                _ => self.changed_scalar(map, part, out, returned),
+            }
+        })
+    }
+
+    fn number(&self, map: &[u8], part: Part, form: u64, size: usize, out: &mut [u8]) -> u64 {
+        self.with_arguments(map, part, out, |part, out| {
+            let returned = Exports.number(map, part, form, size, out);
+            match returned {
+                50 | 51 => returned,
+                _ => self.changed_number(map, part, form, out, returned),
+            }
+        })
+    }
+
+    fn walked(&self, map: &[u8], most: u64) -> u64 {
+        let count = Exports.walked(map, most);
+        match self.mistake {
+            Mistake::Depth31 => self.counted(map, most, DEPTH_LIMIT - 1),
+            Mistake::Depth33 => self.counted(map, most, DEPTH_LIMIT + 1),
+            Mistake::EndCounted if count < most => count + 1,
+            _ => count,
+        }
+    }
+
+    fn cursor(&self, map: &[u8], part: Part, kind: u64, record: Record) -> usize {
+        if self.is(Mistake::PadsPassed) && record.kind() == 9 && kind != STRUCT {
+            return self.past_pads(map, part);
+        }
+        Exports.cursor(map, part, kind, record)
+    }
+}
