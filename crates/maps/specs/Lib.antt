@@ -3,4 +3,5 @@ pub mod Walk
 pub mod Calls
 pub mod Private
 pub mod Exported
+pub mod Reading
 pub mod Theorems

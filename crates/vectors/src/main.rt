@@ -8,6 +8,7 @@ ghost use lib.ListN.{length};
 
 mod frame_questions;
 mod number_questions;
+mod record_questions;
 mod scalar_questions;
 mod step_questions;
 mod text;
@@ -60,6 +61,11 @@ fn answer(line: &[u8]) -> Line {
     let on_values = scalar_questions::answer(asked, s, a, b, c);
     if 0 < on_values.len {
         return on_values;
+    }
+    if check::same(asked, b"record") {
+        let kind = text::number(text::word(line, 5));
+        let size = text::number(text::word(line, 6));
+        return record_questions::record_of(s, a, b, c, kind as u64, size);
     }
     if check::same(asked, b"walk") {
         return walk_questions::walk(s, a, b);

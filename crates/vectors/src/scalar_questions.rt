@@ -38,7 +38,7 @@ fn digits(line: Line, bytes: &[u8]) -> Line {
 }
 
 // Bytes in hexadecimal, `-` where there are none.
-fn hex_bytes(line: Line, bytes: &[u8]) -> Line {
+pub fn hex_bytes(line: Line, bytes: &[u8]) -> Line {
     if bytes.len() == 0 {
         line.byte(b'-')
     } else {
