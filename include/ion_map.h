@@ -106,14 +106,14 @@ enum {
     /* The bytes were cut short: more of them may help, unless a length inside the map is wrong. */
     ION_MAP_REFUSAL_NO_VALUE_LEFT = 1,         /* nothing after annotations - there */
     ION_MAP_REFUSAL_MARKER_CUT = 2,            /* a marker under 4 bytes - its start */
-    ION_MAP_REFUSAL_VAR_UINT_CUT = 3,          /* a length or an ID without a last byte - the end of the part */
+    ION_MAP_REFUSAL_VAR_UINT_CUT = 3,          /* a VarUInt, such as a length or an ID, without a last byte - the end of the part */
     ION_MAP_REFUSAL_ANNOTATIONS_CUT = 5,       /* annotations that run past the part - after their length */
     ION_MAP_REFUSAL_PAD_CUT = 6,               /* a pad that runs past the part - after its length */
     ION_MAP_REFUSAL_FIELD_CUT = 7,             /* a field ID with nothing after it - there */
     ION_MAP_REFUSAL_VALUE_CUT = 8,             /* a value that runs past the part - its descriptor */
 
     /* The bytes were written wrong. */
-    ION_MAP_REFUSAL_NUMBER_TOO_LONG = 20,      /* a length or an ID of over 9 bytes - its first byte */
+    ION_MAP_REFUSAL_NUMBER_TOO_LONG = 20,      /* a VarUInt or VarInt of over 9 bytes - its first byte */
     ION_MAP_REFUSAL_BAD_MARKER = 21,           /* a marker that doesn't end in EA - its start */
     ION_MAP_REFUSAL_NOT_A_VALUE = 22,          /* a byte that begins no value, or E0 outside a stream - that byte */
     ION_MAP_REFUSAL_NO_ANNOTATIONS = 23,       /* an annotations' length of 0 - the wrapper */
@@ -126,10 +126,10 @@ enum {
     ION_MAP_REFUSAL_BAD_FLOAT_LENGTH = 30,     /* a float's length code other than 0, 4, 8, 15 - its descriptor */
     ION_MAP_REFUSAL_TIMESTAMP_TOO_SHORT = 31,  /* a timestamp under 2 bytes, not null - its descriptor */
     ION_MAP_REFUSAL_EMPTY_ORDERED_STRUCT = 32, /* an ordered struct without a body - its descriptor */
+    ION_MAP_REFUSAL_TOO_DEEP = 37,             /* a walk's: a container at depth 32 - its descriptor */
 
     /* The caller's own. */
-    ION_MAP_REFUSAL_TOO_DEEP = 37,             /* a walk's: a container at depth 32 - its descriptor */
-    ION_MAP_REFUSAL_OUTSIDE = 50,              /* not start <= position <= end <= map_len, or kind above 2 - 0 */
+    ION_MAP_REFUSAL_OUTSIDE = 50,              /* not start <= position <= end <= map_len, or a kind or form above 2 - 0 */
     ION_MAP_REFUSAL_RECORD_TOO_SHORT = 51,     /* out_len under 64; nothing is written - 0 */
     ION_MAP_REFUSAL_INPUT_TOO_LONG = 54        /* a walk's: more bytes than it takes - the most that it takes */
 };
@@ -293,7 +293,7 @@ uint64_t ion_map_annotation(const uint8_t *map, size_t map_len, size_t start, si
 
 /* The body of the container at `position`, which is its descriptor's (word DESCRIPTOR of its record) or its
    wrapper's. The part start..end is the one that handed it out. The value is looked at afresh, with the
-   refusals of the step, 1 also where `position` is the part's end and 22 also at a pad. Record kinds: BODY,
+   refusals of the step, 1 also where `position` is the part's end and 22 also at a pad and at E0. Record kinds: BODY,
    REFUSED. */
 uint64_t ion_map_step_in(const uint8_t *map, size_t map_len, size_t start, size_t end, size_t position,
                          uint8_t *out, size_t out_len);

@@ -1,0 +1,261 @@
+//! What a step hands out.
+
+use crate::answer::{kind, Answer};
+use crate::part::{Part, PartKind};
+use crate::raw::Record;
+use crate::refusal::Refusal;
+use std::fmt;
+use std::ops::Range;
+
+/// A value's type: the high four bits of its descriptor byte.
+#[derive(Clone, Copy, Debug, PartialEq, Eq, Hash)]
+pub enum Type {
+    /// The null without another type.
+    Null,
+    /// `true` and `false`.
+    Bool,
+    /// An int of zero and above.
+    Int,
+    /// An int below zero; in Ion the same type.
+    NegativeInt,
+    /// A float of 0, 4 or 8 bytes.
+    Float,
+    /// A decimal.
+    Decimal,
+    /// A timestamp.
+    Timestamp,
+    /// A symbol, by its ID.
+    Symbol,
+    /// Text in UTF-8.
+    String,
+    /// Text in an encoding that the map doesn't say.
+    Clob,
+    /// Bytes.
+    Blob,
+    /// A list.
+    List,
+    /// An S-expression.
+    Sexp,
+    /// A struct.
+    Struct,
+}
+
+impl Type {
+    /// The type that a descriptor byte says, if it is a value's. Pads, which have the null's code, are not told
+    /// from it here; no step hands one out.
+    ///
+    /// ```
+    /// use ion_map::Type;
+    ///
+    /// assert_eq!(Type::of_byte(0xB3), Some(Type::List));
+    /// assert_eq!(Type::of_byte(0xE3), None);
+    /// ```
+    pub fn of_byte(byte: u8) -> Option<Type> {
+        const TYPES: [Type; 14] = [
+            Type::Null,
+            Type::Bool,
+            Type::Int,
+            Type::NegativeInt,
+            Type::Float,
+            Type::Decimal,
+            Type::Timestamp,
+            Type::Symbol,
+            Type::String,
+            Type::Clob,
+            Type::Blob,
+            Type::List,
+            Type::Sexp,
+            Type::Struct,
+        ];
+        TYPES.get(usize::from(byte >> 4)).copied()
+    }
+
+    /// Its name in the Ion document; `int` for both signs.
+    pub fn name(self) -> &'static str {
+        match self {
+            Type::Null => "null",
+            Type::Bool => "bool",
+            Type::Int | Type::NegativeInt => "int",
+            Type::Float => "float",
+            Type::Decimal => "decimal",
+            Type::Timestamp => "timestamp",
+            Type::Symbol => "symbol",
+            Type::String => "string",
+            Type::Clob => "clob",
+            Type::Blob => "blob",
+            Type::List => "list",
+            Type::Sexp => "sexp",
+            Type::Struct => "struct",
+        }
+    }
+
+    /// How the body of such a container is stepped through; nothing for the other types.
+    pub fn body_kind(self) -> Option<PartKind> {
+        match self {
+            Type::List | Type::Sexp => Some(PartKind::Sequence),
+            Type::Struct => Some(PartKind::Struct),
+            _ => None,
+        }
+    }
+}
+
+impl fmt::Display for Type {
+    fn fmt(&self, f: &mut fmt::Formatter<'_>) -> fmt::Result {
+        f.write_str(self.name())
+    }
+}
+
+/// A version marker: four bytes, E0, major, minor, EA.
+#[derive(Clone, Debug, PartialEq, Eq, Hash)]
+pub struct Marker {
+    /// Its four bytes.
+    pub span: Range<usize>,
+    /// The version's first number, whatever it is; 1 for Ion 1.0.
+    pub major: u8,
+    /// The version's second number; 0 for Ion 1.0.
+    pub minor: u8,
+}
+
+/// Where a value lies. Its bytes are in this order: field ID (in a struct), wrapper and annotations (if any),
+/// descriptor, length (if any), body.
+#[derive(Clone, Debug, PartialEq, Eq, Hash)]
+pub struct Value {
+    /// The value's own descriptor byte, never its wrapper's.
+    pub byte: u8,
+    /// The type that the byte says.
+    pub ion_type: Type,
+    /// Its first byte: of the field ID, else of the wrapper, else the descriptor.
+    pub start: usize,
+    /// The annotations' bytes, which end at the descriptor. Empty where there are none.
+    pub annotations: Range<usize>,
+    /// The body, which ends where the value does.
+    pub body: Range<usize>,
+}
+
+impl Value {
+    /// The descriptor's position.
+    pub fn descriptor(&self) -> usize {
+        self.annotations.end
+    }
+
+    /// From its first byte to its end.
+    pub fn span(&self) -> Range<usize> {
+        self.start..self.body.end
+    }
+
+    /// Whether it is a null, of whichever type.
+    pub fn is_null(&self) -> bool {
+        self.byte & 0x0F == 0x0F
+    }
+
+    /// The body as a part for further steps, where the value is a list, a sexp or a struct and not null.
+    ///
+    /// ```
+    /// use ion_map::{step, Part, PartKind};
+    ///
+    /// let map = [0xB1, 0x20, 0xBF];
+    /// let list = step(&map, Part::stream(&map), 0)?;
+    /// assert_eq!(list.value().and_then(|v| v.part()), Some(Part::new(PartKind::Sequence, 1..2)));
+    ///
+    /// let null_list = step(&map, Part::stream(&map), 2)?;
+    /// assert_eq!(null_list.value().and_then(|v| v.part()), None);
+    /// # Ok::<(), ion_map::Refusal>(())
+    /// ```
+    pub fn part(&self) -> Option<Part> {
+        if self.is_null() {
+            return None;
+        }
+        let kind = self.ion_type.body_kind()?;
+        Some(Part::new(kind, self.body.clone()))
+    }
+}
+
+/// What a step hands out.
+#[derive(Clone, Debug, PartialEq, Eq, Hash)]
+pub enum Item {
+    /// Nothing is left in the part. Only a single step hands it out; the iterators stop instead.
+    End {
+        /// The part's end.
+        position: usize,
+    },
+    /// A version marker; only in a stream.
+    Marker(Marker),
+    /// A value of a stream or a sequence.
+    Value(Value),
+    /// A value of a struct.
+    Field {
+        /// Its field ID, a symbol's ID.
+        id: u64,
+        /// The value; its span begins at the field ID.
+        value: Value,
+    },
+}
+
+impl Item {
+    /// The value, of a value or a field.
+    pub fn value(&self) -> Option<&Value> {
+        match self {
+            Item::Value(value) | Item::Field { value, .. } => Some(value),
+            Item::End { .. } | Item::Marker(_) => None,
+        }
+    }
+
+    /// The bytes of the item, its field ID included; of an end an empty span where it is.
+    pub fn span(&self) -> Range<usize> {
+        match self {
+            Item::End { position } => *position..*position,
+            Item::Marker(marker) => marker.span.clone(),
+            Item::Value(value) | Item::Field { value, .. } => value.span(),
+        }
+    }
+
+    /// What a record of [`raw::step`](crate::raw::step) or [`raw::steps`](crate::raw::steps) says.
+    ///
+    /// ```
+    /// use ion_map::{raw, Item};
+    ///
+    /// let mut record = [0; 64];
+    /// raw::step(&[], 0, 0, 0, 0, &mut record);
+    /// assert_eq!(Item::from_record(&record), Ok(Item::End { position: 0 }));
+    /// ```
+    #[inline]
+    pub fn from_record(record: &Record) -> Result<Item, Refusal> {
+        Item::from_answer(&Answer::from_record(record)?)
+    }
+
+    #[inline]
+    pub(crate) fn from_answer(answer: &Answer) -> Result<Item, Refusal> {
+        match answer.kind() {
+            kind::END => Ok(Item::End {
+                position: answer.at::<2>(),
+            }),
+            kind::MARKER => Ok(Item::Marker(marker(answer)?)),
+            kind::VALUE => Ok(Item::Value(value(answer)?)),
+            kind::FIELD => Ok(Item::Field {
+                id: answer.word::<7>(),
+                value: value(answer)?,
+            }),
+            _ => Err(Refusal::unknown_answer()),
+        }
+    }
+}
+
+fn marker(answer: &Answer) -> Result<Marker, Refusal> {
+    Ok(Marker {
+        span: answer.span::<2, 6>(),
+        major: answer.byte::<3>()?,
+        minor: answer.byte::<4>()?,
+    })
+}
+
+#[inline]
+fn value(answer: &Answer) -> Result<Value, Refusal> {
+    let byte = answer.byte::<1>()?;
+    Ok(Value {
+        byte,
+        ion_type: Type::of_byte(byte).ok_or(Refusal::unknown_answer())?,
+        start: answer.at::<2>(),
+        annotations: answer.span::<3, 4>(),
+        body: answer.span::<5, 6>(),
+    })
+}

@@ -1,0 +1,23 @@
+#![doc = include_str!("../README.md")]
+#![deny(missing_docs)]
+#![deny(unsafe_code)]
+
+mod annotations;
+mod answer;
+mod item;
+mod number;
+mod part;
+pub mod raw;
+mod refusal;
+mod scalar;
+mod steps;
+mod walk;
+
+pub use annotations::{annotation, annotations, Annotation, Annotations};
+pub use item::{Item, Marker, Type, Value};
+pub use number::{int, var_int, var_uint, Int, VarInt, VarUInt};
+pub use part::{Part, PartKind};
+pub use refusal::Refusal;
+pub use scalar::{scalar, Scalar};
+pub use steps::{items, step, step_in, Body, Items};
+pub use walk::{walk, walked, Walk, MOST_DEPTH};

@@ -1,0 +1,251 @@
+//! The exported functions as they are: numbers in, records out.
+//!
+//! A record is 64 bytes: eight words of 64 bits, least significant byte first, which [`words`] takes apart. The C
+//! header says which word is which. A function returns 0 or a refusal's number; where a buffer is under 64 bytes it
+//! returns 51 and writes nothing. All that the header asks of pointers holds of any slices, so all of these are safe.
+//!
+//! The rest of the crate is made of these functions, and no other module has unsafe code.
+
+#![allow(unsafe_code)]
+
+/// How many bytes a record has.
+pub const RECORD_SIZE: usize = 64;
+
+/// A record.
+pub type Record = [u8; RECORD_SIZE];
+
+// As the C header declares them: `size_t` is `usize`.
+extern "C" {
+    fn ion_map_step(
+        map: *const u8,
+        map_len: usize,
+        start: usize,
+        end: usize,
+        position: usize,
+        kind: u64,
+        out: *mut u8,
+        out_len: usize,
+    ) -> u64;
+    fn ion_map_annotation(
+        map: *const u8,
+        map_len: usize,
+        start: usize,
+        end: usize,
+        position: usize,
+        out: *mut u8,
+        out_len: usize,
+    ) -> u64;
+    fn ion_map_step_in(
+        map: *const u8,
+        map_len: usize,
+        start: usize,
+        end: usize,
+        position: usize,
+        out: *mut u8,
+        out_len: usize,
+    ) -> u64;
+    fn ion_map_scalar(
+        map: *const u8,
+        map_len: usize,
+        start: usize,
+        end: usize,
+        position: usize,
+        out: *mut u8,
+        out_len: usize,
+    ) -> u64;
+    fn ion_map_number(
+        map: *const u8,
+        map_len: usize,
+        start: usize,
+        end: usize,
+        position: usize,
+        form: u64,
+        length: usize,
+        out: *mut u8,
+        out_len: usize,
+    ) -> u64;
+    fn ion_map_steps(
+        map: *const u8,
+        map_len: usize,
+        start: usize,
+        end: usize,
+        position: usize,
+        kind: u64,
+        out: *mut u8,
+        out_len: usize,
+        count: *mut u64,
+    ) -> u64;
+    fn ion_map_walked(map: *const u8, map_len: usize, most: u64) -> u64;
+}
+
+/// The eight words of a record.
+///
+/// ```
+/// let mut record = [0; 64];
+/// record[8] = 7;
+/// assert_eq!(ion_map::raw::words(&record), [0, 7, 0, 0, 0, 0, 0, 0]);
+/// ```
+#[inline]
+pub fn words(record: &Record) -> [u64; 8] {
+    let mut words = [0; 8];
+    for (word, bytes) in words.iter_mut().zip(record.chunks_exact(8)) {
+        // Every chunk has eight bytes, so the other case never comes.
+        *word = u64::from_le_bytes(bytes.try_into().unwrap_or_default());
+    }
+    words
+}
+
+/// One step through the part `start..end`, which is a stream, a sequence or a struct (0, 1, 2).
+///
+/// ```
+/// let mut record = [0; 64];
+/// assert_eq!(ion_map::raw::step(&[0x21, 0x07], 0, 2, 0, 0, &mut record), 0);
+/// assert_eq!(ion_map::raw::words(&record), [2, 0x21, 0, 0, 0, 1, 2, 0]);
+/// assert_eq!(ion_map::raw::step(&[0x21, 0x07], 0, 2, 0, 3, &mut record), 50);
+/// assert_eq!(ion_map::raw::step(&[0x21, 0x07], 0, 2, 0, 0, &mut record[..63]), 51);
+/// ```
+pub fn step(map: &[u8], start: usize, end: usize, position: usize, kind: u64, out: &mut [u8]) -> u64 {
+    // SAFETY: a slice's pointer is never null and has as many bytes as the slice, and `out`, being borrowed for
+    // writing, overlaps nothing. The function reads within the first, writes within the second and keeps neither.
+    unsafe {
+        ion_map_step(
+            map.as_ptr(),
+            map.len(),
+            start,
+            end,
+            position,
+            kind,
+            out.as_mut_ptr(),
+            out.len(),
+        )
+    }
+}
+
+/// The annotation at `position` of the annotation bytes `start..end`.
+///
+/// ```
+/// let mut record = [0; 64];
+/// assert_eq!(ion_map::raw::annotation(&[0xE3, 0x81, 0x84, 0x20], 2, 3, 2, &mut record), 0);
+/// assert_eq!(ion_map::raw::words(&record), [5, 0, 2, 4, 0, 0, 3, 0]);
+/// ```
+pub fn annotation(map: &[u8], start: usize, end: usize, position: usize, out: &mut [u8]) -> u64 {
+    // SAFETY: as in `step`.
+    unsafe {
+        ion_map_annotation(
+            map.as_ptr(),
+            map.len(),
+            start,
+            end,
+            position,
+            out.as_mut_ptr(),
+            out.len(),
+        )
+    }
+}
+
+/// The body of the container at `position` of the part `start..end`.
+///
+/// ```
+/// let mut record = [0; 64];
+/// assert_eq!(ion_map::raw::step_in(&[0xB1, 0x20], 0, 2, 0, &mut record), 0);
+/// assert_eq!(ion_map::raw::words(&record), [6, 1, 0, 0, 0, 1, 2, 0]);
+/// ```
+pub fn step_in(map: &[u8], start: usize, end: usize, position: usize, out: &mut [u8]) -> u64 {
+    // SAFETY: as in `step`.
+    unsafe {
+        ion_map_step_in(
+            map.as_ptr(),
+            map.len(),
+            start,
+            end,
+            position,
+            out.as_mut_ptr(),
+            out.len(),
+        )
+    }
+}
+
+/// The scalar at `position` of the part `start..end`.
+///
+/// ```
+/// let mut record = [0; 64];
+/// assert_eq!(ion_map::raw::scalar(&[0x71, 0x0A], 0, 2, 0, &mut record), 0);
+/// assert_eq!(ion_map::raw::words(&record), [7, 0x71, 0, 6, 10, 0, 0, 0]);
+/// ```
+pub fn scalar(map: &[u8], start: usize, end: usize, position: usize, out: &mut [u8]) -> u64 {
+    // SAFETY: as in `step`.
+    unsafe {
+        ion_map_scalar(
+            map.as_ptr(),
+            map.len(),
+            start,
+            end,
+            position,
+            out.as_mut_ptr(),
+            out.len(),
+        )
+    }
+}
+
+/// The number at `position` of the part `start..end`: a VarUInt, a VarInt or an Int of `length` bytes (0, 1, 2).
+///
+/// ```
+/// let mut record = [0; 64];
+/// assert_eq!(ion_map::raw::number(&[0x0F, 0xD0], 0, 2, 0, 0, 0, &mut record), 0);
+/// assert_eq!(ion_map::raw::words(&record), [8, 0, 0, 2000, 0, 2, 2, 0]);
+/// ```
+pub fn number(map: &[u8], start: usize, end: usize, position: usize, form: u64, length: usize, out: &mut [u8]) -> u64 {
+    // SAFETY: as in `step`.
+    unsafe {
+        ion_map_number(
+            map.as_ptr(),
+            map.len(),
+            start,
+            end,
+            position,
+            form,
+            length,
+            out.as_mut_ptr(),
+            out.len(),
+        )
+    }
+}
+
+/// As many steps as `out` has room for, a record each, up to an end or a refusal. Returns what the last one
+/// returned, and how many there are.
+///
+/// ```
+/// let mut records = [[0; 64]; 4];
+/// let (refused, count) = ion_map::raw::steps(&[0x20, 0x11], 0, 2, 0, 0, records.as_flattened_mut());
+/// assert_eq!((refused, count), (0, 3));
+/// assert_eq!(ion_map::raw::words(&records[1]), [2, 0x11, 1, 1, 1, 2, 2, 0]);
+/// assert_eq!(ion_map::raw::words(&records[2]), [0, 0, 2, 0, 0, 0, 0, 0]);
+/// ```
+pub fn steps(map: &[u8], start: usize, end: usize, position: usize, kind: u64, out: &mut [u8]) -> (u64, u64) {
+    let mut count = 0;
+    // SAFETY: as in `step`; the count is a variable of this function, which nothing else refers to.
+    let refused = unsafe {
+        ion_map_steps(
+            map.as_ptr(),
+            map.len(),
+            start,
+            end,
+            position,
+            kind,
+            out.as_mut_ptr(),
+            out.len(),
+            &mut count,
+        )
+    };
+    (refused, count)
+}
+
+/// How many markers and values a walk of the whole map meets, at most `most`.
+///
+/// ```
+/// assert_eq!(ion_map::raw::walked(&[0xB1, 0x20], 100), 2);
+/// ```
+pub fn walked(map: &[u8], most: u64) -> u64 {
+    // SAFETY: a slice's pointer is never null and has as many bytes as the slice; the function only reads them.
+    unsafe { ion_map_walked(map.as_ptr(), map.len(), most) }
+}

@@ -1,0 +1,98 @@
+//! Why a function gives no answer.
+
+use std::error::Error;
+use std::fmt;
+
+/// Why there is no answer, and where: a number, and a position in the map.
+///
+/// ```
+/// use ion_map::{step, Part, Refusal};
+///
+/// let map = [0x22, 0x05]; // an int of two bytes, of which one is there
+/// let refusal = step(&map, Part::stream(&map), 0).unwrap_err();
+/// assert_eq!(refusal, Refusal { number: Refusal::VALUE_CUT, position: 0 });
+/// assert_eq!(refusal.to_string(), "refusal 8 at 0: a value that runs past the part");
+/// ```
+#[derive(Clone, Copy, Debug, PartialEq, Eq, Hash)]
+pub struct Refusal {
+    /// Which refusal it is: one of the constants here.
+    pub number: u64,
+    /// Where, counted from the map's first byte.
+    pub position: usize,
+}
+
+// The words are both the constant's comment and what is displayed, so that they stand once.
+macro_rules! refusals {
+    ($($name:ident = $number:expr, $words:literal;)*) => {
+        impl Refusal {
+            $(
+                #[doc = concat!("Number ", stringify!($number), ": ", $words, ".")]
+                pub const $name: u64 = $number;
+            )*
+
+            /// What the number says, in a few words.
+            pub fn words(&self) -> &'static str {
+                match self.number {
+                    $(Self::$name => $words,)*
+                    _ => "a number that this crate doesn't know",
+                }
+            }
+        }
+    };
+}
+
+refusals! {
+    NO_VALUE_LEFT = 1, "nothing after annotations, or where a value is to begin";
+    MARKER_CUT = 2, "a marker under 4 bytes";
+    VAR_UINT_CUT = 3, "a VarUInt without a last byte";
+    VAR_INT_CUT = 4, "a VarInt without a last byte";
+    ANNOTATIONS_CUT = 5, "annotations that run past the part";
+    PAD_CUT = 6, "a pad that runs past the part";
+    FIELD_CUT = 7, "a field ID with nothing after it";
+    VALUE_CUT = 8, "a value that runs past the part";
+    INT_CUT = 9, "an Int that runs past the part";
+
+    NUMBER_TOO_LONG = 20, "a number that ended past 9 bytes";
+    BAD_MARKER = 21, "a marker without EA";
+    NOT_A_VALUE = 22, "no value where one is to stand";
+    NO_ANNOTATIONS = 23, "an annotations' length of 0";
+    ANNOTATIONS_TOO_LONG = 24, "annotations longer than their wrapper";
+    NO_ROOM_FOR_VALUE = 25, "a wrapper with no room for a value";
+    TOO_MANY_ANNOTATIONS = 26, "annotations of over 255 bytes";
+    WRAPPER_IN_WRAPPER = 27, "a wrapper in a wrapper";
+    PAD_IN_WRAPPER = 28, "a pad in a wrapper";
+    WRAPPED_LENGTH_DIFFERS = 29, "a value whose length differs from what its wrapper says";
+    BAD_FLOAT_LENGTH = 30, "a float code outside 0, 4, 8, 15";
+    TIMESTAMP_TOO_SHORT = 31, "a timestamp under 2 bytes that isn't null";
+    EMPTY_ORDERED_STRUCT = 32, "an empty ordered struct";
+    BAD_BOOL = 33, "a bool code of 2 to 14";
+    NEGATIVE_ZERO_INT = 34, "a negative int of zero";
+    SYMBOL_TOO_LONG = 35, "a symbol of over 8 bytes";
+    BAD_UTF8 = 36, "bad UTF-8";
+    TOO_DEEP = 37, "a container too deep for the walk";
+
+    OUTSIDE = 50, "a part or a position outside the map or out of order";
+    RECORD_TOO_SHORT = 51, "a record buffer under 64 bytes";
+    NOT_A_CONTAINER = 52, "stepping into what isn't a container or is null";
+    INPUT_TOO_LONG = 54, "more input than is taken";
+
+    UNKNOWN_ANSWER = u64::MAX, "an answer that this crate doesn't know: the archive is another one than it was made for";
+}
+
+impl Refusal {
+    /// The crate's own refusal, where a record says what the header leaves no room for.
+    pub(crate) const fn unknown_answer() -> Refusal {
+        Refusal {
+            number: Self::UNKNOWN_ANSWER,
+            position: 0,
+        }
+    }
+}
+
+impl fmt::Display for Refusal {
+    fn fmt(&self, f: &mut fmt::Formatter<'_>) -> fmt::Result {
+        write!(f, "refusal {} at {}: {}", self.number, self.position, self.words())
+    }
+}
+
+impl Error for Refusal {}

@@ -1,0 +1,195 @@
+//! Steps through a part of a map.
+
+use crate::answer::{kind, Answer};
+use crate::item::Item;
+use crate::part::{Part, PartKind};
+use crate::raw::{self, Record, RECORD_SIZE};
+use crate::refusal::Refusal;
+use std::iter::FusedIterator;
+
+/// How many steps are taken at once. More of them cost more stack, and save no calls in the short bodies that maps
+/// are made of.
+const BATCH: usize = 16;
+
+/// One step: passes the pads at `position` and hands out the marker, value or field after them, or the end.
+///
+/// Go on from the end of the item's span. The same step gives the same answer, also after an end or a refusal. A
+/// container is handed out whole, and of a value's body and annotations nothing is read.
+///
+/// ```
+/// use ion_map::{step, Item, Part, PartKind};
+///
+/// let map = [0xD5, 0x84, 0x00, 0x85, 0x21, 0x07]; // a struct with a pad, and the field 5
+/// let Item::Field { id, value } = step(&map, Part::new(PartKind::Struct, 1..6), 1)? else { panic!() };
+/// assert_eq!((id, value.span(), value.body), (5, 3..6, 5..6));
+/// # Ok::<(), ion_map::Refusal>(())
+/// ```
+pub fn step(map: &[u8], part: Part, position: usize) -> Result<Item, Refusal> {
+    let answer = Answer::of(|out| raw::step(map, part.start, part.end, position, part.kind.code(), out))?;
+    Item::from_answer(&answer)
+}
+
+/// The markers, values and fields of a part, in order.
+///
+/// ```
+/// use ion_map::{items, Part, Type};
+///
+/// let map = [0xE0, 0x01, 0x00, 0xEA, 0xB3, 0x21, 0x07, 0x00];
+/// for item in items(&map, Part::stream(&map)) {
+///     if let Some(list) = item?.value() {
+///         assert_eq!((list.ion_type, list.body.clone()), (Type::List, 5..8));
+///     }
+/// }
+/// # Ok::<(), ion_map::Refusal>(())
+/// ```
+pub fn items(map: &[u8], part: Part) -> Items<'_> {
+    Items::new(map, part)
+}
+
+/// The iterator that [`items`] gives. It stops at the part's end, or after the first refusal.
+#[derive(Clone)]
+pub struct Items<'a> {
+    map: &'a [u8],
+    part: Part,
+    position: usize,
+    ended: bool,
+    /// Records of the steps from `position` on, from `taken` to `filled`.
+    batch: [Record; BATCH],
+    taken: usize,
+    filled: usize,
+}
+
+impl<'a> Items<'a> {
+    pub(crate) fn new(map: &'a [u8], part: Part) -> Items<'a> {
+        Items {
+            map,
+            part,
+            position: part.start,
+            ended: false,
+            batch: [[0; RECORD_SIZE]; BATCH],
+            taken: 0,
+            filled: 0,
+        }
+    }
+
+    /// Begins with another part. The records need no clearing, since none of them counts any more.
+    pub(crate) fn restart(&mut self, part: Part) {
+        self.part = part;
+        self.position = part.start;
+        self.ended = false;
+        self.taken = 0;
+        self.filled = 0;
+    }
+
+    /// The part that is stepped through.
+    pub fn part(&self) -> Part {
+        self.part
+    }
+
+    /// Where the next step begins. After the end it is the end's position, and after a refusal it is where the
+    /// refused step began.
+    ///
+    /// ```
+    /// use ion_map::{items, Part};
+    ///
+    /// let map = [0x20, 0x00, 0x00]; // an int and two pads
+    /// let mut items = items(&map, Part::stream(&map));
+    /// items.next();
+    /// assert_eq!(items.position(), 1);
+    /// assert_eq!(items.next(), None);
+    /// assert_eq!(items.position(), 3);
+    /// ```
+    pub fn position(&self) -> usize {
+        self.position
+    }
+
+    /// The record of the next step. There is always one: steps give at least one record, and go on after the last.
+    #[inline]
+    fn next_record(&mut self) -> Option<&Record> {
+        if self.taken == self.filled {
+            self.fill();
+        }
+        self.taken += 1;
+        self.batch.get(..self.filled)?.get(self.taken - 1)
+    }
+
+    fn fill(&mut self) {
+        let Part { kind, start, end } = self.part;
+        let out = self.batch.as_flattened_mut();
+        let (_, count) = raw::steps(self.map, start, end, self.position, kind.code(), out);
+        self.taken = 0;
+        self.filled = BATCH.min(count as usize);
+    }
+
+    #[inline]
+    fn take(&mut self) -> Result<Item, Refusal> {
+        let record = self.next_record().ok_or(Refusal::unknown_answer())?;
+        let item = Item::from_record(record)?;
+        self.position = item.span().end;
+        Ok(item)
+    }
+}
+
+impl Iterator for Items<'_> {
+    type Item = Result<Item, Refusal>;
+
+    #[inline]
+    fn next(&mut self) -> Option<Self::Item> {
+        if self.ended {
+            return None;
+        }
+        let taken = self.take();
+        self.ended = matches!(taken, Ok(Item::End { .. }) | Err(_));
+        match taken {
+            Ok(Item::End { .. }) => None,
+            other => Some(other),
+        }
+    }
+}
+
+impl FusedIterator for Items<'_> {}
+
+impl std::fmt::Debug for Items<'_> {
+    // The records would be a page of bytes.
+    fn fmt(&self, f: &mut std::fmt::Formatter<'_>) -> std::fmt::Result {
+        f.debug_struct("Items")
+            .field("part", &self.part)
+            .field("position", &self.position)
+            .field("ended", &self.ended)
+            .finish_non_exhaustive()
+    }
+}
+
+/// A container's body.
+#[derive(Clone, Copy, Debug, PartialEq, Eq, Hash)]
+pub struct Body {
+    /// The container's descriptor's position.
+    pub descriptor: usize,
+    /// The body, for further steps.
+    pub part: Part,
+}
+
+/// The body of the container at `position`, its descriptor's or its wrapper's. `part` is the one that handed the
+/// container out.
+///
+/// ```
+/// use ion_map::{step_in, Part, PartKind, Refusal};
+///
+/// let map = [0xE3, 0x81, 0x84, 0xB0]; // an empty list with the annotation 4
+/// let body = step_in(&map, Part::stream(&map), 0)?;
+/// assert_eq!((body.descriptor, body.part), (3, Part::new(PartKind::Sequence, 4..4)));
+///
+/// let refusal = step_in(&[0x20], Part::stream(&[0x20]), 0).unwrap_err();
+/// assert_eq!(refusal.number, Refusal::NOT_A_CONTAINER);
+/// # Ok::<(), Refusal>(())
+/// ```
+pub fn step_in(map: &[u8], part: Part, position: usize) -> Result<Body, Refusal> {
+    let answer = Answer::of(|out| raw::step_in(map, part.start, part.end, position, out))?;
+    match (answer.kind(), PartKind::of_code(answer.word::<1>())) {
+        (kind::BODY, Some(kind)) => Ok(Body {
+            descriptor: answer.at::<2>(),
+            part: Part::new(kind, answer.span::<5, 6>()),
+        }),
+        _ => Err(Refusal::unknown_answer()),
+    }
+}

@@ -1,0 +1,212 @@
+//! Any positions and any bytes: an answer or a refusal, and never a panic.
+
+mod common;
+
+use common::short;
+use ion_map::{
+    annotation, annotations, int, items, raw, scalar, step, step_in, var_int, var_uint, walk, walked, Part, PartKind,
+    Refusal,
+};
+use std::ops::Range;
+
+const KINDS: [PartKind; 3] = [PartKind::Stream, PartKind::Sequence, PartKind::Struct];
+
+const OUTSIDE: Refusal = Refusal {
+    number: Refusal::OUTSIDE,
+    position: 0,
+};
+
+/// What each function that takes a part and a position refuses, if it does.
+fn refusals(map: &[u8], span: Range<usize>, position: usize) -> Vec<Option<Refusal>> {
+    let mut refusals = Vec::new();
+    for kind in KINDS {
+        let part = Part::new(kind, span.clone());
+        refusals.push(step(map, part, position).err());
+        refusals.push(step_in(map, part, position).err());
+        refusals.push(scalar(map, part, position).err());
+    }
+    refusals.push(annotation(map, span.clone(), position).err());
+    refusals.push(var_uint(map, span.clone(), position).err());
+    refusals.push(var_int(map, span.clone(), position).err());
+    for length in [0, 1, usize::MAX] {
+        refusals.push(int(map, span.clone(), position, length).err());
+    }
+    refusals
+}
+
+#[test]
+fn positions_of_any_size() {
+    let map = [0xE0, 0x01, 0x00, 0xEA, 0xB3, 0x21, 0x07, 0x00];
+    let numbers = [
+        0,
+        4,
+        7,
+        8,
+        9,
+        1 << 32,
+        usize::MAX / 2,
+        usize::MAX / 2 + 1,
+        usize::MAX - 1,
+        usize::MAX,
+    ];
+    for start in numbers {
+        for end in numbers {
+            for position in numbers {
+                let inside = start <= position && position <= end && end <= map.len();
+                for refusal in refusals(&map, start..end, position) {
+                    assert_eq!(refusal == Some(OUTSIDE), !inside, "{start}..{end} at {position}");
+                }
+            }
+        }
+    }
+}
+
+#[test]
+fn the_largest_positions_are_refused_with_50() {
+    let most = usize::MAX;
+    for map in [&[][..], &[0x20], &[0xB1, 0x20]] {
+        for (span, position) in [(0..map.len(), most), (0..most, 0), (most..most, most), (0..most, most)] {
+            assert!(refusals(map, span, position)
+                .iter()
+                .all(|refusal| *refusal == Some(OUTSIDE)));
+        }
+    }
+}
+
+#[test]
+fn iterators_over_parts_outside_refuse_once() {
+    let outside = Part::new(PartKind::Stream, 0..usize::MAX);
+    assert_eq!(items(&[0x20], outside).collect::<Vec<_>>(), [Err(OUTSIDE)]);
+    assert_eq!(annotations(&[0x20], 5..usize::MAX).collect::<Vec<_>>(), [Err(OUTSIDE)]);
+}
+
+#[test]
+fn short_buffers_and_unknown_kinds() {
+    let map = [0xB1, 0x20];
+    for length in 0..64 {
+        let mut out = [0xAA; 64];
+        let out = &mut out[..length];
+        assert_eq!(raw::step(&map, 9, 0, 9, 9, out), 51);
+        assert_eq!(raw::annotation(&map, 9, 0, 9, out), 51);
+        assert_eq!(raw::step_in(&map, 9, 0, 9, out), 51);
+        assert_eq!(raw::scalar(&map, 9, 0, 9, out), 51);
+        assert_eq!(raw::number(&map, 9, 0, 9, 9, 9, out), 51);
+        assert_eq!(raw::steps(&map, 9, 0, 9, 9, out), (51, 0));
+        assert!(out.iter().all(|byte| *byte == 0xAA));
+    }
+    let mut out = [0; 64];
+    for kind in [3, u64::MAX] {
+        assert_eq!(raw::step(&map, 0, 2, 0, kind, &mut out), 50);
+        assert_eq!(raw::steps(&map, 0, 2, 0, kind, &mut out), (50, 1));
+        assert_eq!(raw::number(&map, 0, 2, 0, kind, 0, &mut out), 50);
+        assert_eq!(raw::words(&out), [9, 50, 0, 0, 0, 0, 0, 0]);
+    }
+}
+
+#[test]
+fn longer_buffers_keep_their_further_bytes() {
+    let mut out = [0xAA; 100];
+    assert_eq!(raw::step(&[0x20], 0, 1, 0, 0, &mut out), 0);
+    assert_eq!(raw::steps(&[0x20], 0, 1, 0, 0, &mut out), (0, 1));
+    assert!(out[64..].iter().all(|byte| *byte == 0xAA));
+}
+
+/// All there is to ask of a map, with what must hold of any.
+fn ask(map: &[u8]) {
+    for kind in KINDS {
+        check_run(map, Part::new(kind, 0..map.len()));
+    }
+    for position in 0..=map.len() {
+        refusals(map, 0..map.len(), position);
+        annotations(map, position..map.len()).for_each(drop);
+    }
+    check_walk(map);
+}
+
+/// Items lie in their part one after the other, and only the last answer is a refusal.
+fn check_run(map: &[u8], part: Part) {
+    let mut run = items(map, part);
+    let mut at = part.start;
+    while let Some(item) = run.next() {
+        let Ok(item) = item else {
+            assert_eq!(run.next(), None);
+            return;
+        };
+        let span = item.span();
+        assert!(at <= span.start && span.start < span.end && span.end <= part.end);
+        if let Some(value) = item.value() {
+            let (descriptor, body) = (value.descriptor(), &value.body);
+            assert!(span.start <= value.annotations.start && value.annotations.start <= descriptor);
+            assert!(descriptor < body.start && body.start <= body.end && body.end == span.end);
+            assert_eq!(map[descriptor], value.byte);
+        }
+        at = span.end;
+    }
+    assert_eq!(run.position(), part.end);
+}
+
+/// What is handed out can be looked at: it is there, and stepping in gives the body that the item has.
+fn check_walk(map: &[u8]) {
+    let mut count = 0;
+    let mut walk = walk(map);
+    while let Some(met) = walk.next() {
+        let Ok((depth, item)) = met else { break };
+        count += 1;
+        assert!(depth <= ion_map::MOST_DEPTH);
+        if let Some(value) = item.value() {
+            let body = step_in(map, walk.part(), value.descriptor());
+            assert_eq!(body.ok().map(|body| body.part), value.part());
+        }
+    }
+    assert_eq!(walked(map, u64::MAX), count);
+}
+
+#[test]
+fn every_map_of_two_bytes() {
+    for first in 0..=255 {
+        ask(&[first]);
+        for second in 0..=255 {
+            ask(&[first, second]);
+        }
+    }
+}
+
+#[test]
+fn stored_maps_cut_and_damaged() {
+    for stored in short().iter().filter(|stored| stored.map.len() <= 300) {
+        for at in 0..stored.map.len() {
+            ask_walk(&stored.map[..at]);
+            for byte in [0x00, 0x0E, 0x7F, 0x80, 0xE0, 0xEF, 0xFF] {
+                let mut damaged = stored.map.clone();
+                damaged[at] = byte;
+                ask_walk(&damaged);
+            }
+        }
+    }
+}
+
+fn ask_walk(map: &[u8]) {
+    check_run(map, Part::stream(map));
+    check_walk(map);
+}
+
+/// Bytes at which something changes, put together without a plan.
+#[test]
+fn maps_of_telling_bytes() {
+    const TELLING: [u8; 24] = [
+        0x00, 0x01, 0x0E, 0x0F, 0x11, 0x20, 0x21, 0x31, 0x44, 0x4E, 0x62, 0x71, 0x7F, 0x80, 0x81, 0x84, 0xB2, 0xBE,
+        0xD1, 0xD4, 0xE0, 0xE3, 0xEA, 0xFF,
+    ];
+    let mut state: u64 = 1;
+    let mut next = |most: usize| {
+        state = state
+            .wrapping_mul(6364136223846793005)
+            .wrapping_add(1442695040888963407);
+        (state >> 33) as usize % most
+    };
+    for _ in 0..20_000 {
+        let length = next(13);
+        let map: Vec<u8> = (0..length).map(|_| TELLING[next(TELLING.len())]).collect();
+        ask(&map);
+    }
+}

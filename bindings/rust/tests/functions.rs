@@ -1,0 +1,316 @@
+//! A short example of each function, with the maps at the edges.
+
+use ion_map::{
+    annotation, annotations, int, items, scalar, step, step_in, var_int, var_uint, walk, walked, Body, Item, Part,
+    PartKind, Refusal, Scalar, Type,
+};
+use std::error::Error;
+
+fn refusal(number: u64, position: usize) -> Refusal {
+    Refusal { number, position }
+}
+
+/// The first step of a map taken as a stream.
+fn first(map: &[u8]) -> Result<Item, Refusal> {
+    step(map, Part::stream(map), 0)
+}
+
+fn read(map: &[u8]) -> Result<Scalar<'_>, Refusal> {
+    scalar(map, Part::stream(map), 0)
+}
+
+#[test]
+fn steps() {
+    assert_eq!(first(&[]), Ok(Item::End { position: 0 }));
+    assert_eq!(first(&[0x00, 0x00]), Ok(Item::End { position: 2 }));
+
+    let Ok(Item::Marker(marker)) = first(&[0xE0, 0x01, 0x00, 0xEA]) else {
+        panic!("no marker")
+    };
+    assert_eq!((marker.span, marker.major, marker.minor), (0..4, 1, 0));
+
+    let Ok(Item::Value(int)) = first(&[0xE3, 0x81, 0x84, 0x20]) else {
+        panic!("no value")
+    };
+    assert_eq!((int.byte, int.ion_type, int.descriptor()), (0x20, Type::Int, 3));
+    assert_eq!((int.span(), int.annotations, int.body), (0..4, 2..3, 4..4));
+}
+
+#[test]
+fn steps_through_a_struct() {
+    let map = [0xD5, 0x84, 0x00, 0x85, 0x21, 0x07];
+    let body = Part::new(PartKind::Struct, 1..6);
+    let Ok(Item::Field { id, value }) = step(&map, body, 1) else {
+        panic!("no field")
+    };
+    assert_eq!((id, value.span(), value.descriptor()), (5, 3..6, 4));
+    assert_eq!(step(&map, body, 6), Ok(Item::End { position: 6 }));
+}
+
+#[test]
+fn steps_refused() {
+    let refused: [(&[u8], u64, usize); 12] = [
+        (&[0x01], 6, 1),
+        (&[0xE0, 0x01, 0x00], 2, 0),
+        (&[0xE3, 0x81, 0x84], 1, 3),
+        (&[0xE2, 0x81, 0x84], 25, 0),
+        (&[0xEF, 0x81], 24, 0),
+        (&[0xE4, 0x81, 0x84, 0x20], 29, 0),
+        (&[0xD1, 0x80], 32, 0),
+        (&[0x4E, 0x84], 30, 0),
+        (&[0x4E], 3, 1),
+        (&[0x22, 0x05], 8, 0),
+        (&[0xE0, 0x01, 0x00, 0x00], 21, 0),
+        (&[0xF0], 22, 0),
+    ];
+    for (map, number, position) in refused {
+        assert_eq!(first(map), Err(refusal(number, position)), "{map:X?}");
+    }
+    let in_list = step(&[0xB1, 0xE0], Part::new(PartKind::Sequence, 1..2), 1);
+    assert_eq!(in_list, Err(refusal(22, 1)));
+}
+
+#[test]
+fn items_of_a_part() {
+    let map = [0x21, 0x07, 0x00, 0x11, 0x22];
+    let met: Vec<_> = items(&map, Part::stream(&map))
+        .map(|item| item.map(|item| item.span()))
+        .collect();
+    assert_eq!(met, [Ok(0..2), Ok(3..4), Err(refusal(8, 4))]);
+}
+
+#[test]
+fn items_of_more_than_a_batch() {
+    let map = [0x11; 100];
+    let mut items = items(&map, Part::stream(&map));
+    for at in 0..100 {
+        assert_eq!(items.position(), at);
+        assert_eq!(
+            items.next().map(|item| item.map(|item| item.span())),
+            Some(Ok(at..at + 1))
+        );
+    }
+    assert_eq!(items.next(), None);
+    assert_eq!((items.position(), items.part()), (100, Part::stream(&map)));
+}
+
+#[test]
+fn a_value_as_a_part() {
+    let part = |map: &[u8]| first(map).ok().and_then(|item| item.value()?.part());
+    assert_eq!(part(&[0xB0]), Some(Part::new(PartKind::Sequence, 1..1)));
+    assert_eq!(part(&[0xC1, 0x20]), Some(Part::new(PartKind::Sequence, 1..2)));
+    assert_eq!(part(&[0xD2, 0x84, 0x20]), Some(Part::new(PartKind::Struct, 1..3)));
+    assert_eq!(part(&[0xBF]), None);
+    assert_eq!(part(&[0x20]), None);
+}
+
+#[test]
+fn stepping_in() {
+    let map = [0xE4, 0x81, 0x84, 0xB1, 0x20, 0xBF, 0x00];
+    let stream = Part::stream(&map);
+    let body = Body {
+        descriptor: 3,
+        part: Part::new(PartKind::Sequence, 4..5),
+    };
+    assert_eq!(step_in(&map, stream, 0), Ok(body));
+    assert_eq!(step_in(&map, stream, 3), Ok(body));
+    assert_eq!(step_in(&map, stream, 4), Err(refusal(52, 4)));
+    assert_eq!(step_in(&map, stream, 5), Err(refusal(52, 5)));
+    assert_eq!(step_in(&map, stream, 6), Err(refusal(22, 6)));
+    assert_eq!(step_in(&map, stream, 7), Err(refusal(1, 7)));
+}
+
+#[test]
+fn annotations_of_a_value() {
+    let map = [0xE5, 0x83, 0x84, 0x01, 0x80, 0x20];
+    let read = annotation(&map, 2..5, 3).map(|read| read.map(|annotation| (annotation.id, annotation.span)));
+    assert_eq!(read, Ok(Some((128, 3..5))));
+    assert_eq!(annotation(&map, 2..5, 5), Ok(None));
+
+    let ids: Vec<_> = annotations(&map, 2..5)
+        .map(|read| read.map(|annotation| annotation.id))
+        .collect();
+    assert_eq!(ids, [Ok(4), Ok(128)]);
+    assert_eq!(annotations(&map, 3..4).collect::<Vec<_>>(), [Err(refusal(3, 4))]);
+}
+
+#[test]
+fn scalars() {
+    assert_eq!(read(&[0x0F]), Ok(Scalar::Null(Type::Null)));
+    assert_eq!(read(&[0xDF]), Ok(Scalar::Null(Type::Struct)));
+    assert_eq!(read(&[0x10]), Ok(Scalar::Bool(false)));
+    assert_eq!(read(&[0x11]), Ok(Scalar::Bool(true)));
+    assert_eq!(read(&[0x52, 0xC1, 0x63]), Ok(Scalar::Decimal(&[0xC1, 0x63])));
+    assert_eq!(read(&[0x62, 0x80, 0x81]), Ok(Scalar::Timestamp(&[0x80, 0x81])));
+    assert_eq!(read(&[0x70]), Ok(Scalar::Symbol(0)));
+    assert_eq!(read(&[0x72, 0x01, 0x00]), Ok(Scalar::Symbol(256)));
+    assert_eq!(read(&[0x82, 0x68, 0x69]), Ok(Scalar::String("hi")));
+    assert_eq!(read(&[0x91, 0xFF]), Ok(Scalar::Clob(&[0xFF])));
+    assert_eq!(read(&[0xA1, 0xFF]), Ok(Scalar::Blob(&[0xFF])));
+    assert_eq!(read(&[0xC0]), Ok(Scalar::Container(Type::Sexp)));
+}
+
+#[test]
+fn ints() {
+    let value = |map: &[u8]| read(map).ok().and_then(|int| int.to_i128());
+    assert_eq!(value(&[0x20]), Some(0));
+    assert_eq!(value(&[0x22, 0x00, 0x07]), Some(7));
+    assert_eq!(value(&[0x32, 0x01, 0x00]), Some(-256));
+    assert_eq!(value(&[0x11]), None);
+
+    let zeros_first = [0x23, 0x00, 0x01, 0x00];
+    let magnitude = &zeros_first[2..];
+    let negative = false;
+    assert_eq!(read(&zeros_first), Ok(Scalar::Int { negative, magnitude }));
+
+    let mut large = [0x00; 18];
+    (large[0], large[1], large[2]) = (0x3E, 0x90, 0x80);
+    assert_eq!(value(&large), Some(i128::MIN));
+    large[0] = 0x2E;
+    assert_eq!(value(&large), None);
+}
+
+#[test]
+fn floats() {
+    let bits = |map: &[u8]| match read(map) {
+        Ok(Scalar::Float(float)) => Some(float.to_bits()),
+        _ => None,
+    };
+    assert_eq!(bits(&[0x40]), Some(0));
+    assert_eq!(bits(&[0x44, 0x3F, 0xC0, 0x00, 0x00]), Some(1.5f64.to_bits()));
+    assert_eq!(bits(&[0x48, 0x80, 0, 0, 0, 0, 0, 0, 0]), Some((-0.0f64).to_bits()));
+    // A NaN of 32 bits keeps its sign and fraction and gains the quiet bit.
+    assert_eq!(bits(&[0x44, 0xFF, 0x80, 0x00, 0x01]), Some(0xFFF8_0000_2000_0000));
+}
+
+#[test]
+fn scalars_refused() {
+    assert_eq!(read(&[0x12]), Err(refusal(33, 0)));
+    assert_eq!(read(&[0x30]), Err(refusal(34, 0)));
+    assert_eq!(read(&[0x31, 0x00]), Err(refusal(34, 0)));
+    assert_eq!(read(&[0x79, 0, 0, 0, 0, 0, 0, 0, 0, 1]), Err(refusal(35, 0)));
+    assert_eq!(read(&[0xE4, 0x81, 0x84, 0x81, 0x80]), Err(refusal(36, 3)));
+    assert_eq!(read(&[]), Err(refusal(1, 0)));
+    assert_eq!(read(&[0x00]), Err(refusal(22, 0)));
+    assert_eq!(read(&[0xE0, 0x01, 0x00, 0xEA]), Err(refusal(22, 0)));
+}
+
+#[test]
+fn var_uints() {
+    let value = |map: &[u8]| var_uint(map, 0..map.len(), 0).map(|number| (number.value, number.span));
+    assert_eq!(value(&[0x0F, 0xD0]), Ok((2000, 0..2)));
+    assert_eq!(
+        value(&[0x7F, 0x7F, 0x7F, 0x7F, 0x7F, 0x7F, 0x7F, 0x7F, 0xFF]),
+        Ok((u64::MAX >> 1, 0..9))
+    );
+    assert_eq!(value(&[0, 0, 0, 0, 0, 0, 0, 0, 0, 0x80]), Err(refusal(20, 0)));
+    assert_eq!(value(&[0; 10]), Err(refusal(3, 10)));
+}
+
+#[test]
+fn var_ints() {
+    let value = |map: &[u8]| var_int(map, 0..map.len(), 0).map(|number| (number.negative, number.to_i64()));
+    assert_eq!(value(&[0x40, 0x81]), Ok((true, Some(-1))));
+    assert_eq!(value(&[0xC0]), Ok((true, Some(0))));
+    assert_eq!(value(&[0x80]), Ok((false, Some(0))));
+    let least = [0x7F, 0x7F, 0x7F, 0x7F, 0x7F, 0x7F, 0x7F, 0x7F, 0xFF];
+    assert_eq!(value(&least), Ok((true, Some(1 - (1 << 62)))));
+    assert_eq!(value(&[0x00]), Err(refusal(4, 1)));
+}
+
+#[test]
+fn ints_of_a_length() {
+    let map = [0x80, 0x81];
+    let value = |length| int(&map, 0..2, 0, length).map(|number| (number.first, number.rest, number.to_i128()));
+    assert_eq!(value(0), Ok((0, &[][..], Some(0))));
+    assert_eq!(value(1), Ok((0, &[][..], Some(0))));
+    assert_eq!(value(2), Ok((0, &[0x81][..], Some(-129))));
+    assert_eq!(value(3), Err(refusal(9, 0)));
+    assert_eq!(value(usize::MAX), Err(refusal(9, 0)));
+}
+
+/// A decimal's body, read by the numbers of which it is made.
+#[test]
+fn a_decimal() {
+    let map = [0x52, 0xC1, 0x63];
+    let item = first(&map).unwrap();
+    let body = item.value().unwrap().body.clone();
+    let exponent = var_int(&map, body.clone(), body.start).unwrap();
+    let length = body.end - exponent.span.end;
+    let coefficient = int(&map, body, exponent.span.end, length).unwrap();
+    assert_eq!((coefficient.to_i128(), exponent.to_i64()), (Some(99), Some(-1)));
+}
+
+#[test]
+fn walks() {
+    let map = [0xE0, 0x01, 0x00, 0xEA, 0xB3, 0x21, 0x07, 0x00];
+    let met: Vec<_> = walk(&map)
+        .map(|met| met.map(|(depth, item)| (depth, item.span())))
+        .collect();
+    assert_eq!(met, [Ok((0, 0..4)), Ok((0, 4..8)), Ok((1, 5..7))]);
+    assert_eq!(walked(&map, u64::MAX), 3);
+    assert_eq!(walked(&map, 0), 0);
+}
+
+/// The walk tells which part handed out the last item, also where it has gone on into a body or out of one.
+#[test]
+fn the_part_of_a_walk() {
+    let map = [0xB5, 0xD2, 0x84, 0x20, 0xB0, 0x11, 0x10];
+    let stream = Part::stream(&map);
+    let list = Part::new(PartKind::Sequence, 1..6);
+    let fields = Part::new(PartKind::Struct, 2..4);
+    let mut walk = walk(&map);
+    assert_eq!(walk.part(), stream);
+    for (start, part) in [(0, stream), (1, list), (2, fields), (4, list), (5, list), (6, stream)] {
+        let (_, item) = walk.next().unwrap().unwrap();
+        assert_eq!((item.span().start, walk.part()), (start, part));
+    }
+    assert!(walk.next().is_none());
+}
+
+/// Lists in lists, each with a VarUInt of one byte for its length.
+fn nested(lists: usize) -> Vec<u8> {
+    let mut map = Vec::new();
+    for inner in (0..lists).rev() {
+        map.extend([0xBE, 0x80 | (2 * inner) as u8]);
+    }
+    map
+}
+
+#[test]
+fn walks_too_deep() {
+    let fits = nested(32);
+    assert_eq!(walk(&fits).filter(Result::is_ok).count(), 32);
+    assert!(walk(&fits).all(|met| met.is_ok()));
+
+    let too_deep = nested(33);
+    let mut walk = walk(&too_deep);
+    for depth in 0..=32 {
+        let (at, item) = walk.next().unwrap().unwrap();
+        assert_eq!((at, item.span().start), (depth, 2 * depth));
+    }
+    assert_eq!(walk.next(), Some(Err(refusal(37, 64))));
+    assert_eq!(walk.next(), None);
+    assert_eq!(walked(&too_deep, u64::MAX), 33);
+}
+
+#[test]
+fn refusals_in_words() {
+    let known = (1..=9).chain(20..=37).chain([50, 51, 52, 54, Refusal::UNKNOWN_ANSWER]);
+    let unknown = refusal(10, 0).words();
+    for number in known {
+        assert_ne!(refusal(number, 0).words(), unknown, "{number}");
+    }
+    let error: Box<dyn Error> = Box::new(refusal(Refusal::BAD_UTF8, 7));
+    assert_eq!(error.to_string(), "refusal 36 at 7: bad UTF-8");
+}
+
+#[test]
+fn types() {
+    assert_eq!(Type::of_byte(0x21).map(Type::name), Some("int"));
+    assert_eq!(Type::of_byte(0x31).map(Type::name), Some("int"));
+    assert_eq!(Type::of_byte(0xF0), None);
+    assert_eq!(Type::Struct.to_string(), "struct");
+    assert_eq!(Type::Struct.body_kind(), Some(PartKind::Struct));
+    assert_eq!(Type::Null.body_kind(), None);
+}

@@ -1,0 +1,148 @@
+/* Asks every function of ion_map.h about one small map and checks the answers.
+
+     cc -std=c99 -O2 -I include examples/kit.c libmaps.a -o kit && ./kit
+
+   Returns 0 where all are as they should be; otherwise it says what differs and returns 1. */
+
+#include "ion_map.h"
+
+#include <inttypes.h>
+#include <stdio.h>
+#include <string.h>
+
+static const uint8_t map[] = {
+    0xE0, 0x01, 0x00, 0xEA,       /*  0: a marker, Ion 1.0 */
+    0xE8, 0x81, 0x84,             /*  4: a wrapper with the annotation 4, */
+    0xD5, 0x84, 0x00,             /*  7: in it a struct that begins with a pad, */
+    0x85, 0x21, 0x07,             /* 10: and whose field 5 is the int 7 */
+    0x82, 0x68, 0x69,             /* 13: the string "hi" */
+    0x52, 0xC1, 0x63,             /* 16: the decimal 9.9: exponent -1, coefficient 99 */
+    0x48, 0x3F, 0xF8, 0, 0, 0, 0, 0, 0 /* 19: the float 1.5 */
+};
+enum { LENGTH = sizeof map }; /* 28 */
+
+static uint8_t record[ION_MAP_RECORD_SIZE];
+static int checks;
+static int differing;
+
+static void check(const char *what, uint64_t is, uint64_t should_be)
+{
+    checks++;
+    if (is != should_be) {
+        printf("%s: %" PRIu64 " instead of %" PRIu64 "\n", what, is, should_be);
+        differing++;
+    }
+}
+
+static void check_words(const char *what, const uint8_t *words, const uint64_t *should_be)
+{
+    size_t i;
+
+    for (i = 0; i < ION_MAP_RECORD_WORDS; i++) {
+        char word[80];
+
+        snprintf(word, sizeof word, "%s, word %u", what, (unsigned)i);
+        check(word, ion_map_word(words, i), should_be[i]);
+    }
+}
+
+static void check_step(void)
+{
+    static const uint64_t marker[] = {ION_MAP_KIND_MARKER, 0xE0, 0, 1, 0, 4, 4, 0};
+    static const uint64_t value[] = {ION_MAP_KIND_VALUE, 0xD5, 4, 6, 7, 8, 13, 0};
+    static const uint64_t field[] = {ION_MAP_KIND_FIELD, 0x21, 10, 11, 11, 12, 13, 5};
+    static const uint64_t end[] = {ION_MAP_KIND_END, 0, 28, 0, 0, 0, 0, 0};
+    static const uint64_t cut[] = {ION_MAP_KIND_REFUSED, ION_MAP_REFUSAL_VALUE_CUT, 13, 0, 0, 0, 0, 0};
+    uint64_t byte;
+
+    check("marker", ion_map_step(map, LENGTH, 0, LENGTH, 0, ION_MAP_PART_STREAM, record, sizeof record), 0);
+    check_words("marker", record, marker);
+    check("struct", ion_map_step(map, LENGTH, 0, LENGTH, 4, ION_MAP_PART_STREAM, record, sizeof record), 0);
+    check_words("struct", record, value);
+    byte = ion_map_word(record, ION_MAP_VALUE_BYTE);
+    check("the struct's type", ion_map_type(byte), ION_MAP_TYPE_STRUCT);
+    check("the struct is null", ion_map_is_null(byte) != 0, 0);
+    check("the struct is a container", ion_map_is_container(byte) != 0, 1);
+    check("the struct's body", ion_map_body_kind(byte), ION_MAP_PART_STRUCT);
+    check("field", ion_map_step(map, LENGTH, 8, 13, 8, ION_MAP_PART_STRUCT, record, sizeof record), 0);
+    check_words("field", record, field);
+    check("end", ion_map_step(map, LENGTH, 0, LENGTH, LENGTH, ION_MAP_PART_STREAM, record, sizeof record), 0);
+    check_words("end", record, end);
+    check("cut", ion_map_step(map, 15, 0, 15, 13, ION_MAP_PART_STREAM, record, sizeof record), 8);
+    check_words("cut", record, cut);
+    check("position outside", ion_map_step(map, LENGTH, 0, LENGTH, SIZE_MAX, 0, record, sizeof record), 50);
+    check("short record", ion_map_step(map, LENGTH, 0, LENGTH, 0, 0, record, sizeof record - 1), 51);
+}
+
+static void check_annotation_and_step_in(void)
+{
+    static const uint64_t annotation[] = {ION_MAP_KIND_ANNOTATION, 0, 6, 4, 0, 0, 7, 0};
+    static const uint64_t end[] = {ION_MAP_KIND_END, 0, 7, 0, 0, 0, 0, 0};
+    static const uint64_t body[] = {ION_MAP_KIND_BODY, ION_MAP_PART_STRUCT, 7, 0, 0, 8, 13, 0};
+
+    check("annotation", ion_map_annotation(map, LENGTH, 6, 7, 6, record, sizeof record), 0);
+    check_words("annotation", record, annotation);
+    check("annotations' end", ion_map_annotation(map, LENGTH, 6, 7, 7, record, sizeof record), 0);
+    check_words("annotations' end", record, end);
+    check("stepping in", ion_map_step_in(map, LENGTH, 0, LENGTH, 4, record, sizeof record), 0);
+    check_words("stepping in", record, body);
+    check("stepping into a string", ion_map_step_in(map, LENGTH, 0, LENGTH, 13, record, sizeof record), 52);
+}
+
+static void check_scalar(void)
+{
+    static const uint64_t number[] = {ION_MAP_KIND_SCALAR, 0x21, 11, ION_MAP_WHAT_INT, 0, 12, 13, 0};
+    static const uint64_t string[] = {ION_MAP_KIND_SCALAR, 0x82, 13, ION_MAP_WHAT_STRING, 0, 14, 16, 0};
+    uint64_t bits;
+    double real;
+
+    check("int", ion_map_scalar(map, LENGTH, 8, 13, 11, record, sizeof record), 0);
+    check_words("int", record, number);
+    check("string", ion_map_scalar(map, LENGTH, 0, LENGTH, 13, record, sizeof record), 0);
+    check_words("string", record, string);
+    check("text", memcmp(map + ion_map_word(record, ION_MAP_SCALAR_START), "hi", 2) != 0, 0);
+    check("float", ion_map_scalar(map, LENGTH, 0, LENGTH, 19, record, sizeof record), 0);
+    bits = ion_map_word(record, ION_MAP_SCALAR_NUMBER);
+    memcpy(&real, &bits, sizeof real);
+    check("float is 1.5", real == 1.5, 1);
+    check("a pad is no scalar", ion_map_scalar(map, LENGTH, 8, 13, 9, record, sizeof record), 22);
+}
+
+static void check_number(void)
+{
+    static const uint64_t length[] = {ION_MAP_KIND_NUMBER, 0, 5, 1, 0, 6, 6, 0};
+    static const uint64_t exponent[] = {ION_MAP_KIND_NUMBER, 1, 17, 1, 0, 18, 18, 0};
+    static const uint64_t coefficient[] = {ION_MAP_KIND_NUMBER, 0, 18, 99, 0, 19, 19, 0};
+
+    check("VarUInt", ion_map_number(map, LENGTH, 4, 13, 5, ION_MAP_FORM_VAR_UINT, 0, record, sizeof record), 0);
+    check_words("VarUInt", record, length);
+    check("VarInt", ion_map_number(map, LENGTH, 17, 19, 17, ION_MAP_FORM_VAR_INT, 0, record, sizeof record), 0);
+    check_words("VarInt", record, exponent);
+    check("Int", ion_map_number(map, LENGTH, 17, 19, 18, ION_MAP_FORM_INT, 1, record, sizeof record), 0);
+    check_words("Int", record, coefficient);
+    check("cut Int", ion_map_number(map, LENGTH, 17, 19, 18, ION_MAP_FORM_INT, SIZE_MAX, record, sizeof record), 9);
+}
+
+static void check_many(void)
+{
+    static const uint64_t end[] = {ION_MAP_KIND_END, 0, 28, 0, 0, 0, 0, 0};
+    uint8_t records[8 * ION_MAP_RECORD_SIZE];
+    uint64_t count = 0;
+
+    check("steps", ion_map_steps(map, LENGTH, 0, LENGTH, 0, 0, records, sizeof records, &count), 0);
+    check("the steps' count", count, 6); /* the marker, four values, the end */
+    check_words("the last step", records + 5 * ION_MAP_RECORD_SIZE, end);
+    check("walked", ion_map_walked(map, LENGTH, UINT64_MAX), 6); /* the marker, four values, the field */
+    check("walked two", ion_map_walked(map, LENGTH, 2), 2);
+}
+
+int main(void)
+{
+    check_step();
+    check_annotation_and_step_in();
+    check_scalar();
+    check_number();
+    check_many();
+    printf("%d checks, %d differ\n", checks, differing);
+    return differing != 0;
+}
