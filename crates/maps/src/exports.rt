@@ -27,9 +27,9 @@ use numbers::refusal::RECORD_TOO_SHORT;
 use numbers::refusal::Refusal;
 use numbers::var_int::VarInt;
 use numbers::var_uint::VarUInt;
-use stepping::cursor::Cursor;
 use stepping::cursor::Item;
 use stepping::cursor::Rules;
+use stepping::cursor::item_at;
 use stepping::value::Body;
 use stepping::value::Scalar;
 use stepping::value::ValueRead;
@@ -271,17 +271,13 @@ fn step_by_kind(map: &[u8], start: usize, end: usize, position: usize, kind: u64
     if 2 < kind {
         return refused_outside();
     }
-    let cursor = Cursor { at: position, end };
     if kind == 0 {
-        let step = cursor.next_in_stream(map);
-        return step.item;
+        return item_at(Rules::Stream, map, position, end);
     }
     if kind == 1 {
-        let step = cursor.next_in_sequence(map);
-        return step.item;
+        return item_at(Rules::Sequence, map, position, end);
     }
-    let step = cursor.next_in_struct(map);
-    step.item
+    item_at(Rules::Fields, map, position, end)
 }
 
 // One step. Its record is put at the start of `out`, 64 bytes; returned is 0 or the refusal's number.

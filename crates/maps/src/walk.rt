@@ -14,8 +14,9 @@ use numbers::binary_buffer::outside;
 use numbers::refusal::OUTSIDE;
 use numbers::refusal::Refusal;
 use numbers::refusal::TOO_DEEP;
-use stepping::cursor::Cursor;
 use stepping::cursor::Item;
+use stepping::cursor::Rules;
+use stepping::cursor::item_at;
 use stepping::value::is_container;
 
 // The deepest part: a container in it is handed out and not entered.
@@ -55,17 +56,13 @@ struct Seen {
 fn step_at(s: &[u8], depth: usize, fields: bool, at: usize, end: usize) -> Item
     ensures { λ r. ⌜ itemRead r ≡ answerAt (rulesBy depth fields) (now (s .entry)) at end ⌝ }
 {
-    let cursor = Cursor { at, end };
     if depth == 0 {
-        let step = cursor.next_in_stream(s);
-        return step.item;
+        return item_at(Rules::Stream, s, at, end);
     }
     if fields {
-        let step = cursor.next_in_struct(s);
-        return step.item;
+        return item_at(Rules::Fields, s, at, end);
     }
-    let step = cursor.next_in_sequence(s);
-    step.item
+    item_at(Rules::Sequence, s, at, end)
 }
 
 // The next answer from `at` in the part of this depth on, in the parts above where this one ends.

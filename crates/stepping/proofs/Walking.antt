@@ -82,8 +82,12 @@ pub answered : (rules : Rules) (s : List ℕ) (at hi : ℕ) (o : Outcome Item) �
 answered rules s at hi (gives i) l h = at-item l (sym h)
 answered rules s at hi (refuses n p) l h = at-refusal l (sym h)
 
--- a step's answer settles its cursor
-pub step-is : (rules : Rules) (s : List ℕ) (c : Cursor) (o : Outcome Item) (f : Found) → c .at ≤ c .end → c .end ≤ length s → Walks rules s (c .end) (c .at) f → f .answer ≡ o → record { answer = o; next = after c o } ≡ stepOf rules s c
+-- what a derivation answers is the step's answer
+pub answer-is : (rules : Rules) (s : List ℕ) (at hi : ℕ) (o : Outcome Item) (f : Found) → at ≤ hi → hi ≤ length s → Walks rules s hi at f → f .answer ≡ o → o ≡ stepOf rules s (record { at = at; end = hi }) .answer
 unfolding stepOf
-step-is rules s c o f l m w q =
-    ap (λ (x : Outcome Item). record { answer = x; next = after c x }) (sym q ∙ ap (λ (g : Found). g .answer) (of-walks rules s (c .end) l m w))
+answer-is rules s at hi o f l m w q = sym q ∙ ap (λ (g : Found). g .answer) (of-walks rules s hi l m w)
+
+-- a step's answer settles its cursor
+pub step-is : (rules : Rules) (s : List ℕ) (c : Cursor) (o : Outcome Item) → o ≡ stepOf rules s c .answer → record { answer = o; next = after c o } ≡ stepOf rules s c
+unfolding stepOf
+step-is rules s c o q = ap (λ (x : Outcome Item). record { answer = x; next = after c x }) q

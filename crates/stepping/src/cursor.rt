@@ -184,36 +184,37 @@ fn after_item(cursor: Cursor, item: Item) -> Cursor
     }
 }
 
-// One step: past the pads to the next item, the end or a refusal.
-fn next_item(rules: Rules, s: &[u8], cursor: Cursor) -> Step
-    ensures { λ r. ⌜ stepRead r ≡ stepOf rules (now (s .entry)) cursor ⌝ }
+// What the step at `at` in the part that ends at `end` answers: past the pads to the next item, the end or a refusal.
+pub fn item_at(rules: Rules, s: &[u8], at: usize, end: usize) -> Item
+    ensures { λ r. ⌜ itemRead r ≡ stepOf rules (now (s .entry)) (record { at = at; end = end }) .answer ⌝ }
 {
-    let end = cursor.end;
-    let mut at = cursor.at;
     if outside(s, at, end) {
-        return Step {
-            item: Item::Refused(Refusal {
-                number: OUTSIDE,
-                position: 0,
-            }),
-            next: cursor,
-        };
+        return Item::Refused(Refusal {
+            number: OUTSIDE,
+            position: 0,
+        });
     }
-    while at < end {
-        match read_tile(rules, s, at, end) {
+    let mut from = at;
+    while from < end {
+        match read_tile(rules, s, from, end) {
             Tile::Pad { body: _, end: past } => {
-                at = past;
+                from = past;
             }
             Tile::Item(item) => {
-                let next = after_item(cursor, item);
-                return Step { item, next };
+                return item;
             }
         }
     }
-    Step {
-        item: Item::End { position: end },
-        next: Cursor { at: end, end },
-    }
+    Item::End { position: end }
+}
+
+// One step: its answer, and the cursor that it leaves.
+fn next_item(rules: Rules, s: &[u8], cursor: Cursor) -> Step
+    ensures { λ r. ⌜ stepRead r ≡ stepOf rules (now (s .entry)) cursor ⌝ }
+{
+    let item = item_at(rules, s, cursor.at, cursor.end);
+    let next = after_item(cursor, item);
+    Step { item, next }
 }
 
 impl Cursor {

@@ -2,36 +2,35 @@
 -- Assumes nothing.
 use borrow.Author.Tests.{eq-eqb, ne-eqb}
 use mathlib.Core.Path.{_≡_, _∙_, sym, ap}
-use Rattle.stepping.specs.Answers.{Stepped}
 use borrow.Author.Needs.{needs}
 use Rattle.maps.proofs.walk.step_at.Statement.{statement}
 use Rattle.maps.proofs.walk.step_at.Tie as tie
 
-next-in-stream-requires : tie.Need-next-in-stream-requires
-next-in-stream-requires c κs = search needs
+item-at-requires : tie.Need-item-at-requires
+item-at-requires c κs = search needs
 
 returns : tie.Need-returns
-returns c = rw (eq-eqb _ _ (c .before .if1 .taken)) (ap (λ (x : Stepped). x .answer) (c .next-in-stream .ensures))
+returns c = rw (eq-eqb _ _ (c .before .if1 .taken)) (c .item-at .ensures)
 
-next-in-struct-requires : tie.Need-next-in-struct-requires
-next-in-struct-requires c κs = search needs
+item-at-requires-2 : tie.Need-item-at-requires-2
+item-at-requires-2 c κs = search needs
 
 returns-2 : tie.Need-returns-2
-returns-2 c = rw (ne-eqb _ _ (c .before .before .if1 .left), c .before .if2 .taken) (ap (λ (x : Stepped). x .answer) (c .next-in-struct .ensures))
+returns-2 c = rw (ne-eqb _ _ (c .before .before .if1 .left), c .before .if2 .taken) (c .item-at2 .ensures)
 
-next-in-sequence-requires : tie.Need-next-in-sequence-requires
-next-in-sequence-requires c κs = search needs
+item-at-requires-3 : tie.Need-item-at-requires-3
+item-at-requires-3 c κs = search needs
 
 returns-3 : tie.Need-returns-3
-returns-3 c = rw (ne-eqb _ _ (c .before .before .if1 .left), c .before .if2 .left) (ap (λ (x : Stepped). x .answer) (c .next-in-sequence .ensures))
+returns-3 c = rw (ne-eqb _ _ (c .before .before .if1 .left), c .before .if2 .left) (c .item-at3 .ensures)
 
 pub step-at-spec : {M : Type 1} → statement M
 step-at-spec =
     tie.close
     (tie.spec
-    next-in-stream-requires
+    item-at-requires
     returns
-    next-in-struct-requires
+    item-at-requires-2
     returns-2
-    next-in-sequence-requires
+    item-at-requires-3
     returns-3)
