@@ -104,6 +104,7 @@ pub record WrapperAt (at end : ℕ) (w : Wrapping) : Type 0 where
   pub some : w .annotations < w .value
   pub few : w .value ≤ w .annotations + mostAnnotations
   pub high : w .value ≤ end
+  pub more : 0 < w .expected
 
 pub wrapper-each : (s : List ℕ) (at end : ℕ) (d : TypeDescriptor) → at < end → Each (WrapperAt at end) (wrapperAt s at end d)
 unfolding wrapperAt annotationsAt wrapperTests
@@ -111,8 +112,8 @@ wrapper-each s at end d h =
     each-then (length-each s (at + 1) end (d .«length_code») (omega arith)) (λ l b.
     each-then (var-uint-bounded s (l .body) end) (λ u n.
     each-refuse (eqb (u .value) 0) 23 at (λ z.
-    each-refuse (ltb (l .size) (u .next - l .body + u .value)) 24 at (λ _.
-    each-refuse (eqb (l .size) (u .next - l .body + u .value)) 25 at (λ _.
+    each-refuse (ltb (l .size) (u .next - l .body + u .value)) 24 at (λ x.
+    each-refuse (eqb (l .size) (u .next - l .body + u .value)) 25 at (λ y.
     each-refuse (ltb (end - u .next) (u .value)) 5 (u .next) (λ f.
     each-refuse (ltb mostAnnotations (u .value)) 26 at (λ m.
     given
@@ -121,6 +122,7 @@ wrapper-each s at end d h =
       some = omega (arith, eqb-false (u .value) 0 z);
       few = omega (arith, ltb-false mostAnnotations (u .value) m);
       high = omega (arith, ltb-false (end - u .next) (u .value) f, n .ends);
+      more = omega (arith, ltb-false (l .size) (u .next - l .body + u .value) x, eqb-false (l .size) (u .next - l .body + u .value) y);
     }))))))))
 
 pub inner-each : (s : List ℕ) (at end : ℕ) (d : TypeDescriptor) → at < end → Each (Ordered at end) (innerValue s at end d)

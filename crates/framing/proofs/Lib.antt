@@ -4,3 +4,4 @@ pub mod Told
 pub mod Accepts
 pub mod Looked
 pub mod Refusing
+pub mod Opening

@@ -73,6 +73,31 @@ pad-kind type code =
     (λ t c _. record { type-is = t; no-null = c })
     (λ _ _ e. absurd (true≢false (sym e)))
 
+-- the bytes below 15 begin pads, and no others do
+pub record PadByte (k : Kind) : Type 0 where
+  pub wrapper : isWrapper k ≡ false
+  pub value : noValue k ≡ true
+
+pub pad-byte : (b : ℕ) → b < 15 → PadByte (kindOf (b / 16) (b % 16))
+pad-byte b h =
+    by-kind (b / 16) (b % 16) PadByte
+    (λ t. absurd (omega arith))
+    (λ t _. absurd (omega arith))
+    (λ t _. absurd (omega arith))
+    (λ _ n. absurd (omega arith))
+    (λ _ _. record { wrapper = refl; value = refl })
+    (λ t _. absurd (omega arith))
+
+pub no-pad-byte : (b : ℕ) → 15 ≤ b → isPad (kindOf (b / 16) (b % 16)) ≡ false
+no-pad-byte b h =
+    by-kind (b / 16) (b % 16) (λ k. isPad k ≡ false)
+    (λ _. refl)
+    (λ _ _. refl)
+    (λ _ _. refl)
+    (λ _ _. refl)
+    (λ t n. let e : b % 16 ≡ 15 = omega arith in absurd (n e))
+    (λ _ _. refl)
+
 -- and back
 pub record IsValue (k : Kind) : Type 0 where
   pub value : noValue k ≡ false

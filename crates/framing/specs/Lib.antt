@@ -2,3 +2,4 @@ pub mod Answers
 pub mod Format
 pub mod Meaning
 pub mod Read
+pub mod Opened

@@ -4,17 +4,17 @@
 ghost use mathlib.Core.Path.{_≡_};
 ghost use Prim.Native.Nat.{_+_, _≤_, _<_, _^_};
 ghost use lib.ListN.{length};
-ghost use Rattle.numbers.specs.Outcome.{andThen};
-ghost use Rattle.framing.specs.Answers.{begun, isPad, isWrapper, noValue, lengthAt, valueCode, badFloat, shortTimestamp, emptyOrdered, lengthTests, valueLength, fitting, plainValue, padAt, wrapperTests, wrapperAt, innerValue, wrapped, annotatedValue, valueAt, frameAt, readValue, readFrame, readValueLength, readPad, readWrapper};
-ghost use Rattle.framing.specs.Read.{begunRead, spansOf, lengthRead, padRead, wrapperRead, framedRead, frameRead};
+ghost use Rattle.framing.specs.Answers.{begun, isPad, isWrapper, noValue, lengthAt, valueCode, badFloat, shortTimestamp, emptyOrdered, lengthTests, valueLength, padAt, wrapperTests, wrapperAt, valueAt, frameAt, readValue, readFrame, readValueLength, readPad, readWrapper};
+ghost use Rattle.framing.specs.Opened.{openedRead, innerAt, openedWrapper, openedAt, differsFrom, closed, openedValue};
+ghost use Rattle.framing.specs.Read.{begunRead, lengthRead, padRead, wrapperRead, framedRead, frameRead};
 use crate::encoded_value::AnnotationsWrapper;
 use crate::encoded_value::EncodedValue;
 use crate::encoded_value::Frame;
 use crate::encoded_value::Framed;
 use crate::encoded_value::Length;
 use crate::encoded_value::NopPad;
+use numbers::binary_buffer::next_var_uint;
 use numbers::binary_buffer::outside;
-use numbers::binary_buffer::read_var_uint;
 use numbers::refusal::ANNOTATIONS_CUT;
 use numbers::refusal::ANNOTATIONS_TOO_LONG;
 use numbers::refusal::BAD_FLOAT_LENGTH;
@@ -100,7 +100,7 @@ fn begin(s: &[u8], at: usize, end: usize) -> Begun
             position: end,
         });
     }
-    Begun::At(TypeDescriptor::from_byte(s[at]))
+    Begun::At(TypeDescriptor::compared(s[at]))
 }
 
 // The length that a length code tells; its VarUInt, if it has one, is at `at`.
@@ -116,7 +116,7 @@ fn read_length(s: &[u8], at: usize, end: usize, code: u8) -> Length
             size: code as usize,
         };
     }
-    match read_var_uint(s, at, end) {
+    match next_var_uint(s, at, end) {
         VarUInt::Value { value, next } => Length::Known {
             body: next,
             size: value,
@@ -227,52 +227,6 @@ fn value_length(s: &[u8], at: usize, end: usize, descriptor: TypeDescriptor) -> 
     }
 }
 
-// The value at `at` whose body is to begin at `body` and have `size` bytes.
-fn fit(at: usize, end: usize, byte: u8, body: usize, size: usize) -> Framed
-    requires { ⌜ body ≤ end ⌝ }
-    ensures { λ r. ⌜ framedRead r ≡ fitting at end byte (record { body = body; size = size }) ⌝ }
-{
-    if end - body < size {
-        return Framed::Refused(Refusal {
-            number: VALUE_CUT,
-            position: at,
-        });
-    }
-    let after = body + size;
-    Framed::Value(EncodedValue {
-        byte,
-        start: at,
-        annotations: at,
-        descriptor: at,
-        body,
-        end: after,
-    })
-}
-
-// The value with this descriptor at `at`, without annotations.
-fn read_value_without_annotations(
-    s: &[u8],
-    at: usize,
-    end: usize,
-    descriptor: TypeDescriptor,
-) -> Framed
-    requires { ⌜ (at < end) × (end ≤ length (now s)) ⌝ }
-    ensures { λ r. ⌜ framedRead r ≡ plainValue (now (s .entry)) at end descriptor ⌝ }
-{
-    let kind = descriptor.kind;
-    if no_value(kind) {
-        return Framed::Refused(Refusal {
-            number: NOT_A_VALUE,
-            position: at,
-        });
-    }
-    let byte = s[at];
-    match value_length(s, at, end, descriptor) {
-        Length::Known { body, size } => fit(at, end, byte, body, size),
-        Length::Refused(refusal) => Framed::Refused(refusal),
-    }
-}
-
 // The pad with this descriptor at `at`.
 fn read_pad(s: &[u8], at: usize, end: usize, descriptor: TypeDescriptor) -> NopPad
     requires { ⌜ (at < end) × (end ≤ length (now s)) ⌝ }
@@ -355,7 +309,7 @@ fn read_wrapper(s: &[u8], at: usize, end: usize, descriptor: TypeDescriptor) -> 
 {
     let after = at + 1;
     match read_length(s, after, end, descriptor.length_code) {
-        Length::Known { body, size } => match read_var_uint(s, body, end) {
+        Length::Known { body, size } => match next_var_uint(s, body, end) {
             VarUInt::Value { value, next } => check_wrapper(at, end, body, size, value, next),
             VarUInt::Refused(refusal) => AnnotationsWrapper::Refused(refusal),
         },
@@ -363,79 +317,157 @@ fn read_wrapper(s: &[u8], at: usize, end: usize, descriptor: TypeDescriptor) -> 
     }
 }
 
-// The value with this descriptor at `at`, in a wrapper.
-fn read_wrapped(s: &[u8], at: usize, end: usize, descriptor: TypeDescriptor) -> Framed
+// Where a value stands, once its wrapper is read: `expected` is how long the wrapper's lengths say that it is, 0 where it has no wrapper.
+enum Opened {
+    Value {
+        annotations: usize,
+        value: usize,
+        expected: usize,
+        descriptor: TypeDescriptor,
+    },
+    Refused(Refusal),
+}
+
+// What stands at `value` in a wrapper, where something does that may.
+fn open_inner(s: &[u8], end: usize, annotations: usize, value: usize, expected: usize) -> Opened
+    ensures { λ r. ⌜ openedRead r ≡ innerAt (now (s .entry)) end (record { annotations = annotations; value = value; expected = expected }) ⌝ }
+{
+    match begin(s, value, end) {
+        Begun::At(descriptor) => {
+            let kind = descriptor.kind;
+            if is_wrapper(kind) {
+                return Opened::Refused(Refusal {
+                    number: WRAPPER_IN_WRAPPER,
+                    position: value,
+                });
+            }
+            if is_pad(kind) {
+                return Opened::Refused(Refusal {
+                    number: PAD_IN_WRAPPER,
+                    position: value,
+                });
+            }
+            if no_value(kind) {
+                return Opened::Refused(Refusal {
+                    number: NOT_A_VALUE,
+                    position: value,
+                });
+            }
+            Opened::Value {
+                annotations,
+                value,
+                expected,
+                descriptor,
+            }
+        }
+        Begun::Refused(refusal) => Opened::Refused(refusal),
+    }
+}
+
+// Where the value of the wrapper with this descriptor at `at` stands.
+fn open_wrapper(s: &[u8], at: usize, end: usize, descriptor: TypeDescriptor) -> Opened
     requires { ⌜ (at < end) × (end ≤ length (now s)) ⌝ }
-    ensures { λ r. ⌜ framedRead r ≡ innerValue (now (s .entry)) at end descriptor ⌝ }
-{
-    let kind = descriptor.kind;
-    if is_wrapper(kind) {
-        return Framed::Refused(Refusal {
-            number: WRAPPER_IN_WRAPPER,
-            position: at,
-        });
-    }
-    if is_pad(kind) {
-        return Framed::Refused(Refusal {
-            number: PAD_IN_WRAPPER,
-            position: at,
-        });
-    }
-    read_value_without_annotations(s, at, end, descriptor)
-}
-
-// What stands at `at` in a wrapper, where something does.
-fn read_inner(s: &[u8], at: usize, end: usize) -> Framed
-    ensures { λ r. ⌜ framedRead r ≡ andThen (begun (now (s .entry)) at end) (innerValue (now (s .entry)) at end) ⌝ }
-{
-    match begin(s, at, end) {
-        Begun::At(descriptor) => read_wrapped(s, at, end, descriptor),
-        Begun::Refused(refusal) => Framed::Refused(refusal),
-    }
-}
-
-// The value of the wrapper at `at`, whose lengths say that it has `expected` bytes.
-fn check_wrapped(
-    at: usize,
-    annotations: usize,
-    value: usize,
-    expected: usize,
-    inner: EncodedValue,
-) -> Framed
-    requires { ⌜ inner .descriptor ≤ inner .end ⌝ }
-    ensures { λ r. ⌜ framedRead r ≡ wrapped at (record { annotations = annotations; value = value; expected = expected }) (spansOf inner) ⌝ }
-{
-    if inner.end - inner.descriptor != expected {
-        return Framed::Refused(Refusal {
-            number: WRAPPED_LENGTH_DIFFERS,
-            position: at,
-        });
-    }
-    Framed::Value(EncodedValue {
-        byte: inner.byte,
-        start: at,
-        annotations,
-        descriptor: inner.descriptor,
-        body: inner.body,
-        end: inner.end,
-    })
-}
-
-// The value in the wrapper with this descriptor at `at`.
-fn read_annotated_value(s: &[u8], at: usize, end: usize, descriptor: TypeDescriptor) -> Framed
-    requires { ⌜ (at < end) × (end ≤ length (now s)) ⌝ }
-    ensures { λ r. ⌜ framedRead r ≡ annotatedValue (now (s .entry)) at end descriptor ⌝ }
+    ensures { λ r. ⌜ openedRead r ≡ openedWrapper (now (s .entry)) at end descriptor ⌝ }
 {
     match read_wrapper(s, at, end, descriptor) {
         AnnotationsWrapper::Wrapper {
             annotations,
             value,
             expected,
-        } => match read_inner(s, value, end) {
-            Framed::Value(inner) => check_wrapped(at, annotations, value, expected, inner),
-            Framed::Refused(refusal) => Framed::Refused(refusal),
-        },
-        AnnotationsWrapper::Refused(refusal) => Framed::Refused(refusal),
+        } => open_inner(s, end, annotations, value, expected),
+        AnnotationsWrapper::Refused(refusal) => Opened::Refused(refusal),
+    }
+}
+
+// Where the value with this descriptor at `at`, or in the wrapper with this descriptor, stands.
+fn open_value(s: &[u8], at: usize, end: usize, descriptor: TypeDescriptor) -> Opened
+    requires { ⌜ (at < end) × (end ≤ length (now s)) ⌝ }
+    ensures { λ r. ⌜ openedRead r ≡ openedAt (now (s .entry)) at end descriptor ⌝ }
+{
+    let kind = descriptor.kind;
+    if is_wrapper(kind) {
+        return open_wrapper(s, at, end, descriptor);
+    }
+    if no_value(kind) {
+        return Opened::Refused(Refusal {
+            number: NOT_A_VALUE,
+            position: at,
+        });
+    }
+    Opened::Value {
+        annotations: at,
+        value: at,
+        expected: 0,
+        descriptor,
+    }
+}
+
+// Whether a value's length differs from what its wrapper says, if it has one.
+fn differs(expected: usize, size: usize) -> bool
+    ensures { λ r. ⌜ r ≡ differsFrom expected size ⌝ }
+{
+    if expected == 0 {
+        return false;
+    }
+    size != expected
+}
+
+// The value whose descriptor is at `value`, in the item at `at`, and whose body is to begin at `body` and have `size` bytes.
+fn close_value(
+    at: usize,
+    end: usize,
+    annotations: usize,
+    value: usize,
+    expected: usize,
+    byte: u8,
+    body: usize,
+    size: usize,
+) -> Framed
+    requires { ⌜ (value ≤ body) × (body ≤ end) ⌝ }
+    ensures { λ r. ⌜ framedRead r ≡ closed at end annotations value expected byte (record { body = body; size = size }) ⌝ }
+{
+    if end - body < size {
+        return Framed::Refused(Refusal {
+            number: VALUE_CUT,
+            position: value,
+        });
+    }
+    let after = body + size;
+    if differs(expected, after - value) {
+        return Framed::Refused(Refusal {
+            number: WRAPPED_LENGTH_DIFFERS,
+            position: at,
+        });
+    }
+    Framed::Value(EncodedValue {
+        start: at,
+        annotations,
+        descriptor: value,
+        body,
+        end: after,
+        byte,
+    })
+}
+
+// The value that stands at `value` with this descriptor, in the item at `at`.
+fn read_opened(
+    s: &[u8],
+    at: usize,
+    end: usize,
+    annotations: usize,
+    value: usize,
+    expected: usize,
+    descriptor: TypeDescriptor,
+) -> Framed
+    requires { ⌜ (value < end) × (end ≤ length (now s)) ⌝ }
+    ensures { λ r. ⌜ framedRead r ≡ openedValue (now (s .entry)) at end (record { annotations = annotations; value = value; expected = expected; descriptor = descriptor }) ⌝ }
+{
+    let byte = s[value];
+    match value_length(s, value, end, descriptor) {
+        Length::Known { body, size } => {
+            close_value(at, end, annotations, value, expected, byte, body, size)
+        }
+        Length::Refused(refusal) => Framed::Refused(refusal),
     }
 }
 
@@ -444,11 +476,15 @@ fn read_value_at(s: &[u8], at: usize, end: usize, descriptor: TypeDescriptor) ->
     requires { ⌜ (at < end) × (end ≤ length (now s)) ⌝ }
     ensures { λ r. ⌜ framedRead r ≡ valueAt (now (s .entry)) at end descriptor ⌝ }
 {
-    let kind = descriptor.kind;
-    if is_wrapper(kind) {
-        return read_annotated_value(s, at, end, descriptor);
+    match open_value(s, at, end, descriptor) {
+        Opened::Value {
+            annotations,
+            value,
+            expected,
+            descriptor: inner,
+        } => read_opened(s, at, end, annotations, value, expected, inner),
+        Opened::Refused(refusal) => Framed::Refused(refusal),
     }
-    read_value_without_annotations(s, at, end, descriptor)
 }
 
 // The pad or the value with this descriptor at `at`.

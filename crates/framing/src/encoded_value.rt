@@ -2,8 +2,6 @@
 use numbers::refusal::Refusal;
 
 pub struct EncodedValue {
-    // The value's own descriptor byte, not its wrapper's.
-    pub byte: u8,
     // Where the value with its wrapper starts.
     pub start: usize,
     // Where its annotations start; the descriptor's position where it has none.
@@ -13,6 +11,8 @@ pub struct EncodedValue {
     // Its body: body..end.
     pub body: usize,
     pub end: usize,
+    // The value's own descriptor byte, not its wrapper's.
+    pub byte: u8,
 }
 
 // A value's length, and where its body starts.

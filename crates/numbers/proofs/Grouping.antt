@@ -69,6 +69,13 @@ var-uint-groups s at end h k =
     refuse-same (ltb 9 (l + 1 - at)) 20 at (λ _.
     ap (λ (x : ℕ). gives (record { value = x; next = l + 1 })) (sym (followed-zero (part s at (l + 1))))))
 
+-- a VarUInt of one byte
+pub var-uint-one : (s : List ℕ) (at end : ℕ) → at < end → end ≤ length s → 128 ≤ getD s at 0 → varUInt s at end ≡ gives (record { value = getD s at 0 % 128; next = at + 1 })
+var-uint-one s at end h k b =
+    var-uint-groups s at end (omega arith) k
+    ∙ groups-here 3 0 s at at end h k b (omega arith)
+    ∙ ap (λ (x : ℕ). gives (record { value = x; next = at + 1 })) (omega arith)
+
 -- a VarInt whose first byte is not the last is that byte's sign, and its six bits followed by groups
 abbrev pub signedBy : ℕ → Unsigned → Outcome Signed
 signedBy b u = gives (record { negative = eqb (b / 64 % 2) 1; magnitude = u .value; next = u .next })

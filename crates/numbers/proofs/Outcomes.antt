@@ -112,6 +112,16 @@ pub then-same : {A B : Type 0} {P : A → Type 0} {o o' : Outcome A} {f g : A �
 then-same {g = g} e q h = then-each e h ∙ ap (λ x. andThen x g) q
 
 -- back from what is given: each test passed, and each reading gave
+-- the second of two continuations may be taken with the first
+pub then-then : {A B C : Type 0} (o : Outcome A) (f : A → Outcome B) (g : B → Outcome C) → andThen (andThen o f) g ≡ andThen o (λ a. andThen (f a) g)
+then-then (gives a) f g = refl
+then-then (refuses n p) f g = refl
+
+-- continuations that agree everywhere
+pub then-like : {A B : Type 0} (o : Outcome A) {f g : A → Outcome B} → ((a : A) → f a ≡ g a) → andThen o f ≡ andThen o g
+then-like (gives a) e = e a
+then-like (refuses n p) e = refl
+
 pub refuse-gives : {A : Type 0} (t : Bool) (n p : ℕ) {o : Outcome A} {a : A} → refuseIf t n p o ≡ gives a → (t ≡ false) × (o ≡ gives a)
 refuse-gives true n p h = absurd (let z : _≡_ {A = ℕ} 0 1 = cc in omega arith)
 refuse-gives false n p h = (refl, h)

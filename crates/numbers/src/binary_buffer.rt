@@ -93,6 +93,25 @@ pub fn read_var_uint(s: &[u8], at: usize, end: usize) -> VarUInt
     read_groups(s, at, at, end, 0, VAR_UINT_CUT)
 }
 
+// Reads a VarUInt as `read_var_uint` does, one of a single byte in place: most lengths and field IDs have one.
+pub fn next_var_uint(s: &[u8], at: usize, end: usize) -> VarUInt
+    ensures { λ r. ⌜ varUIntRead r ≡ varUInt (now (s .entry)) at end ⌝ }
+{
+    if end <= s.len() {
+        if at < end {
+            let first = wide(s[at]);
+            let after = at + 1;
+            if 128 <= first {
+                return VarUInt::Value {
+                    value: first % 128,
+                    next: after,
+                };
+            }
+        }
+    }
+    read_var_uint(s, at, end)
+}
+
 // Reads a VarInt.
 pub fn read_var_int(s: &[u8], at: usize, end: usize) -> VarInt
     ensures { λ r. ⌜ varIntRead r ≡ varInt (now (s .entry)) at end ⌝ }

@@ -1,6 +1,7 @@
 // The descriptor byte that begins each value, pad, wrapper and marker.
 ghost use mathlib.Core.Path.{_≡_};
-ghost use Rattle.numbers.specs.Descriptor.{descriptorOf};
+ghost use Prim.Native.Nat.{_/_, _%_};
+ghost use Rattle.numbers.specs.Descriptor.{descriptorOf, kindOf};
 ghost use Rattle.numbers.specs.Packed.{packedOf, numberedKind};
 
 // What a descriptor byte begins.
@@ -61,6 +62,28 @@ fn kind_of(number: u8) -> Kind
     }
 }
 
+// The kind of a byte, by comparisons.
+fn kind_by(byte: u8) -> Kind
+    ensures { λ r. ⌜ r ≡ kindOf (byte / 16) (byte % 16) ⌝ }
+{
+    if byte < 0x0F {
+        return Kind::Pad;
+    }
+    if byte < 0xE0 {
+        if byte % 16 == 15 {
+            return Kind::Null;
+        }
+        return Kind::Value;
+    }
+    if byte == 0xE0 {
+        return Kind::Marker;
+    }
+    if byte < 0xF0 {
+        return Kind::Wrapper;
+    }
+    Kind::Reserved
+}
+
 impl TypeDescriptor {
     // The descriptor that a byte stands for.
     pub fn from_byte(byte: u8) -> Self
@@ -71,6 +94,18 @@ impl TypeDescriptor {
         TypeDescriptor {
             type_code: byte / 16,
             length_code: entry % 16,
+            kind,
+        }
+    }
+
+    // The same by comparisons, for the steps: a look into the table first writes all of it to the stack.
+    pub fn compared(byte: u8) -> Self
+        ensures { λ r. ⌜ r ≡ descriptorOf byte ⌝ }
+    {
+        let kind = kind_by(byte);
+        TypeDescriptor {
+            type_code: byte / 16,
+            length_code: byte % 16,
             kind,
         }
     }

@@ -21,3 +21,5 @@ pub mod Edges
 pub mod Passed
 pub mod Examples
 pub mod Moves
+pub mod Naming
+pub mod Valued

@@ -52,7 +52,7 @@ read-refusal v = record { number = num (nth 0 (parts v)); position = num (nth 1 
 read-value : Val → EncodedValue
 read-value v =
     let f : ℕ → ℕ = λ i. num (nth i (parts v)) in
-    record { byte = f 0; start = f 1; annotations = f 2; descriptor = f 3; body = f 4; end = f 5 }
+    record { start = f 0; annotations = f 1; descriptor = f 2; body = f 3; end = f 4; byte = f 5 }
 
 read-item : Val → Item
 read-item v =

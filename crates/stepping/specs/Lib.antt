@@ -13,3 +13,4 @@ pub mod Magnitude
 pub mod Scalars
 pub mod Reached
 pub mod Edges
+pub mod Private

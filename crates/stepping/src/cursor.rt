@@ -2,14 +2,16 @@
 ghost use mathlib.Core.Path.{_≡_};
 ghost use Prim.Native.Nat.{_+_, _≤_, _<_};
 ghost use lib.ListN.{length};
-ghost use Rattle.numbers.specs.Outcome.{refuses};
-ghost use Rattle.stepping.specs.Answers.{markerAt, framedAt, namedAt, fieldAt, tileAt, after, stepOf};
+ghost use Rattle.numbers.specs.Outcome.{gives, refuses, andThen};
+ghost use Rattle.framing.specs.Read.{spansOf, frameRead};
+ghost use Rattle.stepping.specs.Answers.{markerAt, tileAt, after, stepOf};
+ghost use Rattle.stepping.specs.Private.{namedRead, fieldId, nameAt, itemBy, tileBy, isMarker};
 ghost use Rattle.stepping.specs.Read.{itemRead, tileRead, stepRead};
 use framing::binary_buffer::read_frame;
 use framing::encoded_value::EncodedValue;
 use framing::encoded_value::Frame;
+use numbers::binary_buffer::next_var_uint;
 use numbers::binary_buffer::outside;
-use numbers::binary_buffer::read_var_uint;
 use numbers::refusal::BAD_MARKER;
 use numbers::refusal::FIELD_CUT;
 use numbers::refusal::MARKER_CUT;
@@ -94,42 +96,75 @@ fn read_ivm(s: &[u8], at: usize, end: usize) -> Tile
     })
 }
 
-// The pad or the value at `at`.
-fn read_framed(s: &[u8], at: usize, end: usize) -> Tile
-    ensures { λ r. ⌜ tileRead r ≡ framedAt (now (s .entry)) at end ⌝ }
+// The field ID before a pad or a value, 0 where there is none, and where that pad or value stands.
+enum Named {
+    At { id: usize, next: usize },
+    Refused(Refusal),
+}
+
+// The field ID at `at`, where something follows it.
+fn read_field_id(s: &[u8], at: usize, end: usize) -> Named
+    ensures { λ r. ⌜ namedRead r ≡ fieldId (now (s .entry)) at end ⌝ }
 {
-    match read_frame(s, at, end) {
-        Frame::Pad { body, end: past } => Tile::Pad { body, end: past },
-        Frame::Value(value) => Tile::Item(Item::Value(value)),
-        Frame::Refused(refusal) => Tile::Item(Item::Refused(refusal)),
+    match next_var_uint(s, at, end) {
+        VarUInt::Value { value, next } => {
+            if next == end {
+                return Named::Refused(Refusal {
+                    number: FIELD_CUT,
+                    position: end,
+                });
+            }
+            Named::At { id: value, next }
+        }
+        VarUInt::Refused(refusal) => Named::Refused(refusal),
     }
 }
 
-// The pad or the value after the field ID that starts at `at` and ends at `next`.
-fn read_named(s: &[u8], at: usize, end: usize, id: usize, next: usize) -> Tile
-    ensures { λ r. ⌜ tileRead r ≡ namedAt (now (s .entry)) at end (record { value = id; next = next }) ⌝ }
+// What the rules of the part want before a pad or a value: in a struct's body a field ID.
+fn read_name(rules: Rules, s: &[u8], at: usize, end: usize) -> Named
+    ensures { λ r. ⌜ namedRead r ≡ nameAt rules (now (s .entry)) at end ⌝ }
 {
-    if next == end {
-        return refused(FIELD_CUT, end);
+    match rules {
+        Rules::Stream => Named::At { id: 0, next: at },
+        Rules::Sequence => Named::At { id: 0, next: at },
+        Rules::Fields => read_field_id(s, at, end),
     }
-    match read_frame(s, next, end) {
-        Frame::Pad { body, end: past } => Tile::Pad { body, end: past },
-        Frame::Value(value) => Tile::Item(Item::Field {
+}
+
+// The item that a value is, by the rules of the part.
+fn item_of(rules: Rules, at: usize, id: usize, value: EncodedValue) -> Item
+    ensures { λ r. ⌜ itemRead r ≡ gives (itemBy rules at id (spansOf value)) ⌝ }
+{
+    match rules {
+        Rules::Stream => Item::Value(value),
+        Rules::Sequence => Item::Value(value),
+        Rules::Fields => Item::Field {
             id,
             start: at,
             value,
-        }),
+        },
+    }
+}
+
+// The tile that a frame is, by the rules of the part.
+fn tile_of(rules: Rules, at: usize, id: usize, frame: Frame) -> Tile
+    ensures { λ r. ⌜ tileRead r ≡ andThen (frameRead frame) (tileBy rules at id) ⌝ }
+{
+    match frame {
+        Frame::Pad { body, end } => Tile::Pad { body, end },
+        Frame::Value(value) => Tile::Item(item_of(rules, at, id, value)),
         Frame::Refused(refusal) => Tile::Item(Item::Refused(refusal)),
     }
 }
 
-// The field ID at `at` with the pad or the value after it.
-fn read_field(s: &[u8], at: usize, end: usize) -> Tile
-    ensures { λ r. ⌜ tileRead r ≡ fieldAt (now (s .entry)) at end ⌝ }
+// Whether a byte begins a version marker: only in a stream.
+fn is_marker(rules: Rules, byte: u8) -> bool
+    ensures { λ r. ⌜ r ≡ isMarker rules byte ⌝ }
 {
-    match read_var_uint(s, at, end) {
-        VarUInt::Value { value, next } => read_named(s, at, end, value, next),
-        VarUInt::Refused(refusal) => Tile::Item(Item::Refused(refusal)),
+    match rules {
+        Rules::Stream => byte == 0xE0,
+        Rules::Sequence => false,
+        Rules::Fields => false,
     }
 }
 
@@ -138,15 +173,12 @@ fn read_tile(rules: Rules, s: &[u8], at: usize, end: usize) -> Tile
     requires { ⌜ (at < end) × (end ≤ length (now s)) ⌝ }
     ensures { λ r. ⌜ tileRead r ≡ tileAt rules (now (s .entry)) at end ⌝ }
 {
-    match rules {
-        Rules::Stream => {
-            if s[at] == 0xE0 {
-                return read_ivm(s, at, end);
-            }
-            read_framed(s, at, end)
-        }
-        Rules::Sequence => read_framed(s, at, end),
-        Rules::Fields => read_field(s, at, end),
+    if is_marker(rules, s[at]) {
+        return read_ivm(s, at, end);
+    }
+    match read_name(rules, s, at, end) {
+        Named::At { id, next } => tile_of(rules, at, id, read_frame(s, next, end)),
+        Named::Refused(refusal) => Tile::Item(Item::Refused(refusal)),
     }
 }
 

@@ -5,23 +5,28 @@ ghost use mathlib.Core.Path.{_≡_};
 ghost use Prim.Native.Nat.{_≤_, _<_};
 ghost use lib.ListN.{length};
 ghost use lib.Dec.{eqb};
-ghost use Rattle.numbers.specs.Outcome.{gives, pick};
+ghost use Rattle.numbers.specs.Outcome.{gives, refuses, pick};
 ghost use Rattle.framing.specs.Read.{framedRead, spansOf};
 ghost use Rattle.stepping.specs.Scalars.{null, valueIn, isContainer, opened, stepIn, boolOf, positiveOf, negativeOf, floatOf, symbolOf, stringOf, typedOf, scalarOf, readScalar, readWithValue, spanOf, scalarPart};
-ghost use Rattle.stepping.specs.Read.{bodyRead, scalarRead, valueRead};
+ghost use Rattle.stepping.specs.Read.{bodyRead, itemRead, scalarRead, valueRead};
+ghost use Rattle.stepping.specs.Private.{valueFrom};
 use crate::cursor::Cursor;
+use crate::cursor::Item;
 use crate::cursor::Rules;
+use crate::cursor::item_at;
 use crate::float::widen;
 use crate::magnitude::significant;
 use crate::uint::uint_of;
 use crate::utf8::is_utf8;
-use framing::binary_buffer::read_value;
 use framing::encoded_value::EncodedValue;
 use framing::encoded_value::Framed;
+use numbers::binary_buffer::outside;
 use numbers::refusal::BAD_BOOL;
 use numbers::refusal::BAD_UTF8;
 use numbers::refusal::NEGATIVE_ZERO_INT;
+use numbers::refusal::NO_VALUE_LEFT;
 use numbers::refusal::NOT_A_CONTAINER;
+use numbers::refusal::NOT_A_VALUE;
 use numbers::refusal::OUTSIDE;
 use numbers::refusal::Refusal;
 use numbers::refusal::SYMBOL_TOO_LONG;
@@ -91,20 +96,57 @@ pub struct Span {
     pub end: usize,
 }
 
+// The first descriptor byte that begins no pad.
+const FIRST_NO_PAD: u8 = 15;
+
 // The most bytes of a symbol.
 const MAX_SYMBOL_SIZE_IN_BYTES: usize = 8;
 
-// The value at `at` in the part start..end.
+fn no_value(number: u64, position: usize) -> Framed
+    ensures { λ r. ⌜ framedRead r ≡ refuses number position ⌝ }
+{
+    Framed::Refused(Refusal { number, position })
+}
+
+// The value that the answer of a step at `at` is.
+fn value_of(at: usize, item: Item) -> Framed
+    ensures { λ r. ⌜ framedRead r ≡ valueFrom at (itemRead item) ⌝ }
+{
+    match item {
+        Item::End { position: _ } => no_value(NOT_A_VALUE, at),
+        Item::Marker {
+            start: _,
+            major: _,
+            minor: _,
+            end: _,
+        } => no_value(NOT_A_VALUE, at),
+        Item::Value(value) => Framed::Value(value),
+        Item::Field {
+            id: _,
+            start: _,
+            value: _,
+        } => no_value(NOT_A_VALUE, at),
+        Item::Refused(refusal) => Framed::Refused(refusal),
+    }
+}
+
+// The value at `at` in the part start..end: what a step in a sequence answers there, but that a pad is refused.
 pub fn value_in(s: &[u8], start: usize, end: usize, at: usize) -> Framed
     ensures { λ r. ⌜ framedRead r ≡ valueIn (now (s .entry)) start end at ⌝ }
 {
     if at < start {
-        return Framed::Refused(Refusal {
-            number: OUTSIDE,
-            position: 0,
-        });
+        return no_value(OUTSIDE, 0);
     }
-    read_value(s, at, end)
+    if outside(s, at, end) {
+        return no_value(OUTSIDE, 0);
+    }
+    if at == end {
+        return no_value(NO_VALUE_LEFT, end);
+    }
+    if s[at] < FIRST_NO_PAD {
+        return no_value(NOT_A_VALUE, at);
+    }
+    value_of(at, item_at(Rules::Sequence, s, at, end))
 }
 
 // Whether a value is a list, a sexp or a struct, and not null.
