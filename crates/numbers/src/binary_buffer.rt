@@ -93,7 +93,7 @@ pub fn read_var_uint(s: &[u8], at: usize, end: usize) -> VarUInt
     read_groups(s, at, at, end, 0, VAR_UINT_CUT)
 }
 
-// Reads a VarUInt as `read_var_uint` does, one of a single byte in place: most lengths and field IDs have one.
+// Reads a VarUInt as `read_var_uint` does, one of one byte or two in place: most lengths and field IDs have no more.
 pub fn next_var_uint(s: &[u8], at: usize, end: usize) -> VarUInt
     ensures { λ r. ⌜ varUIntRead r ≡ varUInt (now (s .entry)) at end ⌝ }
 {
@@ -106,6 +106,17 @@ pub fn next_var_uint(s: &[u8], at: usize, end: usize) -> VarUInt
                     value: first % 128,
                     next: after,
                 };
+            }
+            if after < end {
+                let second = wide(s[after]);
+                let past = after + 1;
+                if 128 <= second {
+                    let grown = first * 128 + second % 128;
+                    return VarUInt::Value {
+                        value: grown,
+                        next: past,
+                    };
+                }
             }
         }
     }
