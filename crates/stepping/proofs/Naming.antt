@@ -1,7 +1,7 @@
 -- A tile is what the rules want before a frame, and then the frame, by each of the rules.
 -- Assumes nothing.
 use Prim.Native.Nat.{ℕ, _+_, _≤_, _<_}
-use mathlib.Core.Path.{_≡_, refl, _∙_, sym}
+use mathlib.Core.Path.{_≡_, refl, _∙_, sym, ap}
 use mathlib.Core.Bool.{Bool, true, false}
 use mathlib.Core.List.{List}
 use lib.ListN.{getD}
@@ -9,19 +9,16 @@ use lib.Dec.{eqb}
 use Rattle.numbers.specs.Outcome.{Outcome, gives, pick, andThen}
 use Rattle.numbers.specs.Answers.{Unsigned, varUInt}
 use Rattle.numbers.proofs.Outcomes.{refuse-same, refuse-first, then-then, then-like}
-use Rattle.framing.specs.Answers.{Frame, padding, valued, readFrame}
-use Rattle.stepping.specs.Answers.{Tile, markerAt, asTile, framedAt, asField, namedAt, fieldAt, tileAt}
-use Rattle.stepping.specs.Private.{followed, fieldId, nameAt, tileBy, namedTile, isMarker}
+use Rattle.framing.specs.Answers.{Spans, Frame, padding, valued, readFrame}
+use Rattle.stepping.specs.Answers.{Item, value, Tile, hand, markerAt, asTile, framedAt, asField, namedAt, fieldAt, tileAt}
+use Rattle.stepping.specs.Private.{followed, fieldId, nameAt, itemBy, tileBy, namedTile, isMarker}
 use Rattle.stepping.specs.declared.cursor.Rules.{Rules}
 use Rattle.stepping.specs.declared.cursor.Rules.the-variants.{Stream, Sequence, Fields}
 
-by-stream : (at id : ℕ) (f : Frame) → asTile f ≡ tileBy Stream at id f
-by-stream at id (padding p) = refl
-by-stream at id (valued v) = refl
-
-by-sequence : (at id : ℕ) (f : Frame) → asTile f ≡ tileBy Sequence at id f
-by-sequence at id (padding p) = refl
-by-sequence at id (valued v) = refl
+-- a frame's tile where the rules want nothing before it
+by-itself : (rules : Rules) (at : ℕ) → ((v : Spans) → value v ≡ itemBy rules at 0 v) → (f : Frame) → asTile f ≡ tileBy rules at 0 f
+by-itself rules at e (padding p) = refl
+by-itself rules at e (valued v) = ap (λ (i : Item). gives (hand i)) (e v)
 
 by-fields : (at id : ℕ) (f : Frame) → asField id at f ≡ tileBy Fields at id f
 by-fields at id (padding p) = refl
@@ -42,8 +39,8 @@ module _ (s : List ℕ) (at end : ℕ) where
 
   named : (rules : Rules) → unnamed rules ≡ andThen (nameAt rules s at end) (namedTile rules s at end)
   unfolding unnamed framedAt fieldAt fieldId namedTile
-  named Stream = then-like (readFrame s at end) (by-stream at 0)
-  named Sequence = then-like (readFrame s at end) (by-sequence at 0)
+  named Stream = then-like (readFrame s at end) (by-itself Stream at (λ v. refl))
+  named Sequence = then-like (readFrame s at end) (by-itself Sequence at (λ v. refl))
   named Fields =
       then-like (varUInt s at end) named-field ∙ sym (then-then (varUInt s at end) (followed end) (namedTile Fields s at end))
 
