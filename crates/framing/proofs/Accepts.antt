@@ -77,7 +77,7 @@ module _ (type code n : ℕ) (l : Legal type code n) where
 spans-are : (v : Spans) (a b c d e f : ℕ) → v .byte ≡ a → v .start ≡ b → v .annotations ≡ c → v .descriptor ≡ d → v .body ≡ e → v .end ≡ f → record { byte = a; start = b; annotations = c; descriptor = d; body = e; end = f } ≡ v
 spans-are v a b c d e f p q r x y z = rw (← p, ← q, ← r, ← x, ← y, ← z)
 
-begun-here : (s : List ℕ) (at end : ℕ) → at < end → end ≤ length s → begun s at end ≡ gives (here s at)
+pub begun-here : (s : List ℕ) (at end : ℕ) → at < end → end ≤ length s → begun s at end ≡ gives (here s at)
 unfolding begun
 begun-here s at end h k = within-part s at end (omega arith) k ∙ rw (ne-eqb at end (omega arith))
 

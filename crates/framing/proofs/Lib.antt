@@ -5,3 +5,4 @@ pub mod Accepts
 pub mod Looked
 pub mod Refusing
 pub mod Opening
+pub mod Telling

@@ -3,3 +3,4 @@ pub mod Format
 pub mod Meaning
 pub mod Read
 pub mod Opened
+pub mod Telling

@@ -6,6 +6,7 @@ ghost use Prim.Native.Nat.{_+_, _≤_, _<_, _^_};
 ghost use lib.ListN.{length};
 ghost use Rattle.framing.specs.Answers.{begun, isPad, isWrapper, noValue, lengthAt, valueCode, badFloat, shortTimestamp, emptyOrdered, lengthTests, valueLength, padAt, wrapperTests, wrapperAt, valueAt, frameAt, readValue, readFrame, readValueLength, readPad, readWrapper};
 ghost use Rattle.framing.specs.Opened.{openedRead, innerAt, openedWrapper, openedAt, differsFrom, closed, openedValue};
+ghost use Rattle.framing.specs.Telling.{lengthTold, toldLength, tellingOf};
 ghost use Rattle.framing.specs.Read.{begunRead, lengthRead, padRead, wrapperRead, framedRead, frameRead};
 use crate::encoded_value::AnnotationsWrapper;
 use crate::encoded_value::EncodedValue;
@@ -38,6 +39,26 @@ use numbers::var_uint::VarUInt;
 
 // The most bytes that a value's annotations may have.
 const MOST_ANNOTATIONS: usize = 255;
+
+// For each type code, the length codes that tell a value's length by themselves: a bit for each code, the lowest for 0.
+const TELLING: [u16; 16] = [
+    0x8000,
+    0xFFFF,
+    0xBFFF,
+    0xBFFF,
+    0x8111,
+    0xBFFF,
+    0xBFFC,
+    0xBFFF,
+    0xBFFF,
+    0xBFFF,
+    0xBFFF,
+    0xBFFF,
+    0xBFFF,
+    0xBFFD,
+    0,
+    0,
+];
 
 fn is_pad(kind: Kind) -> bool
     ensures { λ r. ⌜ r ≡ isPad kind ⌝ }
@@ -123,6 +144,46 @@ fn read_length(s: &[u8], at: usize, end: usize, code: u8) -> Length
         },
         VarUInt::Refused(refusal) => Length::Refused(refusal),
     }
+}
+
+fn wide(x: u8) -> usize
+    ensures { λ r. ⌜ r ≡ x ⌝ }
+{
+    x as usize
+}
+
+// The length codes of a type that tell a value's length.
+fn telling(type_code: u8) -> u16
+    requires { ⌜ «type_code» < 16 ⌝ }
+    ensures { λ r. ⌜ r ≡ tellingOf «type_code» ⌝ }
+{
+    TELLING[type_code as usize]
+}
+
+// Whether a value's descriptor tells its length: no VarUInt says it, and no test of it fails.
+pub fn length_told(type_code: u8, length_code: u8) -> bool
+    ensures { λ r. ⌜ r ≡ lengthTold «type_code» «length_code» ⌝ }
+{
+    if 15 < type_code {
+        return false;
+    }
+    if 15 < length_code {
+        return false;
+    }
+    (telling(type_code) >> length_code) % 2 == 1
+}
+
+// The length that such a descriptor tells.
+pub fn told_length(type_code: u8, length_code: u8) -> usize
+    ensures { λ r. ⌜ r ≡ toldLength «type_code» «length_code» ⌝ }
+{
+    if type_code < 2 {
+        return 0;
+    }
+    if length_code == 15 {
+        return 0;
+    }
+    wide(length_code)
 }
 
 // The length code that a value is read by: none for null and bool, and a VarUInt for an ordered struct.
@@ -214,6 +275,10 @@ fn value_length(s: &[u8], at: usize, end: usize, descriptor: TypeDescriptor) -> 
     ensures { λ r. ⌜ lengthRead r ≡ valueLength (now (s .entry)) at end descriptor ⌝ }
 {
     let after = at + 1;
+    if length_told(descriptor.type_code, descriptor.length_code) {
+        let size = told_length(descriptor.type_code, descriptor.length_code);
+        return Length::Known { body: after, size };
+    }
     let code = value_code(descriptor.type_code, descriptor.length_code);
     match read_length(s, after, end, code) {
         Length::Known { body, size } => check_length(

@@ -1,5 +1,6 @@
 pub mod Seeking
 pub mod Storing
+pub mod InPlace
 pub mod Telling
 pub mod ManySteps
 pub mod Counting

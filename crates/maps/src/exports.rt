@@ -4,7 +4,7 @@ ghost use Prim.Native.Nat.{_+_, _≤_};
 ghost use lib.ListN.{length, take};
 ghost use lib.Seq.{sets};
 ghost use mathlib.Core.List.{[], _∷_};
-ghost use Rattle.numbers.specs.Outcome.{andThen, refuses};
+ghost use Rattle.numbers.specs.Outcome.{andThen, gives, refuses};
 ghost use Rattle.framing.specs.Read.{annotationRead, spansOf};
 ghost use Rattle.stepping.specs.Words.{words, valueWords};
 ghost use Rattle.stepping.specs.Read.{bodyRead, itemRead, scalarRead};
@@ -12,7 +12,13 @@ ghost use Rattle.stepping.specs.Scalars.{stepIn, readScalar, readWithValue};
 ghost use Rattle.maps.specs.Buffer.{littleEndian, bytesOf, recordIn, numberIn, returned};
 ghost use Rattle.maps.specs.Exported.{exportedStep, refusedWords, exportedAnnotation, annotationWords, enteredAt, exportedBody, kindOf, bodyWords, oneIf, scalarWords, readingWords, numberBy, exportedNumber, numberWords, fullRun, allWords, lastNumber, recordsIn, countIn, returnedLast, itemsIn};
 ghost use Rattle.maps.specs.Walk.{whole};
+ghost use Rattle.maps.specs.InPlace.{plainItem, insideOf};
 ghost use Rattle.maps.specs.Private.{leftOf};
+use crate::Named;
+use crate::Plain;
+use crate::begins_plain;
+use crate::name_at;
+use crate::plain_at;
 use crate::walk::count_items;
 use framing::annotations_iterator::Annotation;
 use framing::annotations_iterator::read_annotation;
@@ -481,6 +487,92 @@ fn left_at(item: Item) -> Left
     }
 }
 
+// The words of a step's answer, and where it leaves off.
+struct Stepped {
+    words: [u64; 8],
+    left: Left,
+}
+
+// The words of a value or a field.
+fn plain_words(fields: bool, at: usize, id: usize, value: EncodedValue) -> [u64; 8]
+    ensures { λ r. ⌜ r ≡ words (gives (plainItem fields at id (spansOf value))) ⌝ }
+{
+    if fields {
+        return value_words(3, at, value, id);
+    }
+    value_words(2, value.start, value, 0)
+}
+
+// Whether `at` is in the part start..end of the map, and the part's kind is one.
+fn inside(map: &[u8], start: usize, end: usize, at: usize, kind: u64) -> bool
+    ensures { λ r. ⌜ r ≡ insideOf (now (map .entry)) start end at kind ⌝ }
+{
+    if at < start {
+        return false;
+    }
+    if 2 < kind {
+        return false;
+    }
+    if end < at {
+        return false;
+    }
+    end <= map.len()
+}
+
+// The step at `at`, whatever stands there.
+fn any_step(map: &[u8], start: usize, end: usize, at: usize, kind: u64) -> Stepped
+    ensures { λ r. ⌜ r .words ≡ words (exportedStep (now (map .entry)) start end at kind) ⌝ }
+    ensures { λ r. ⌜ r .left ≡ leftOf (exportedStep (now (map .entry)) start end at kind) ⌝ }
+{
+    let item = step_by_kind(map, start, end, at, kind);
+    let words = words_of(item);
+    let left = left_at(item);
+    Stepped { words, left }
+}
+
+// The step at `at`: the end and a value without annotations are read in place.
+fn step_words(map: &[u8], start: usize, end: usize, at: usize, kind: u64) -> Stepped
+    ensures { λ r. ⌜ r .words ≡ words (exportedStep (now (map .entry)) start end at kind) ⌝ }
+    ensures { λ r. ⌜ r .left ≡ leftOf (exportedStep (now (map .entry)) start end at kind) ⌝ }
+{
+    if !inside(map, start, end, at, kind) {
+        return any_step(map, start, end, at, kind);
+    }
+    if at == end {
+        return Stepped {
+            words: [0, 0, end as u64, 0, 0, 0, 0, 0],
+            left: Left::Over,
+        };
+    }
+    let fields = kind == 2;
+    match name_at(fields, map, at, end) {
+        Named::At { id, next } => {
+            if !begins_plain(map, next, end) {
+                return any_step(map, start, end, at, kind);
+            }
+            match plain_at(map, next, end) {
+                Plain::Value { body, end: past } => {
+                    let byte = map[next];
+                    let value = EncodedValue {
+                        start: next,
+                        annotations: next,
+                        descriptor: next,
+                        body,
+                        end: past,
+                        byte,
+                    };
+                    Stepped {
+                        words: plain_words(fields, at, id, value),
+                        left: Left::At(past),
+                    }
+                }
+                Plain::Other => any_step(map, start, end, at, kind),
+            }
+        }
+        Named::Other => any_step(map, start, end, at, kind),
+    }
+}
+
 // How many records were put, and the number of the last answer.
 struct Steps {
     count: usize,
@@ -504,11 +596,12 @@ fn put_steps(
     let mut at = position;
     let mut count = 0;
     while count < room {
-        let item = step_by_kind(map, start, end, at, kind);
-        let words = words_of(item);
+        let step = step_words(map, start, end, at, kind);
+        let words = step.words;
+        let left = step.left;
         put_words(out, count * RECORD, &words);
         count = count + 1;
-        match left_at(item) {
+        match left {
             Left::At(next) => {
                 at = next;
             }

@@ -2,13 +2,21 @@
 ghost use mathlib.Core.Path.{_≡_};
 ghost use Prim.Native.Nat.{_≤_};
 ghost use lib.ListN.{take};
-ghost use Rattle.numbers.specs.Outcome.{refuses};
+ghost use lib.Dec.{eqb};
+ghost use mathlib.Core.Bool.{false};
+ghost use Rattle.numbers.specs.Outcome.{pick, refuses};
 ghost use Rattle.framing.specs.Read.{spansOf};
 ghost use Rattle.stepping.specs.Read.{itemRead};
 ghost use Rattle.maps.specs.Walk.{visit, answerAt, whole};
 ghost use Rattle.maps.specs.Calls.{startOf, rulesAt, seek, movedTo, pastValue, past, visitOf, nextOf, isLast, calls, walkedRead};
 ghost use Rattle.maps.specs.Exported.{itemsIn};
+ghost use Rattle.maps.specs.InPlace.{ToldIn};
 ghost use Rattle.maps.specs.Private.{rulesBy, stateOf, seenRead};
+use crate::Named;
+use crate::Plain;
+use crate::begins_plain;
+use crate::name_at;
+use crate::plain_at;
 use framing::encoded_value::EncodedValue;
 use numbers::binary_buffer::outside;
 use numbers::refusal::OUTSIDE;
@@ -208,6 +216,66 @@ fn is_last(item: Item) -> bool
     }
 }
 
+// Whether a part of this depth is the body of a struct.
+fn among_fields(depth: usize, fields: bool) -> bool
+    ensures { λ r. ⌜ r ≡ pick (eqb depth 0) false fields ⌝ }
+{
+    if depth == 0 {
+        return false;
+    }
+    fields
+}
+
+// A value without annotations, where its first bytes tell it.
+enum Met {
+    Value(EncodedValue),
+    Other,
+}
+
+// The value at a place.
+fn glance(s: &[u8], ends: &[usize; 33], fields: &[bool; 33], place: Place) -> Met
+    ensures { λ r. ⌜ ToldIn (now (s .entry)) (stateOf (now (ends .entry)) (now (fields .entry)) place) r ⌝ }
+{
+    let depth = place.depth;
+    let at = place.at;
+    let deep = place.deep;
+    if DEEPEST < depth {
+        return Met::Other;
+    }
+    if deep {
+        return Met::Other;
+    }
+    let end = ends[depth];
+    if s.len() < end {
+        return Met::Other;
+    }
+    if end <= at {
+        return Met::Other;
+    }
+    match name_at(among_fields(depth, fields[depth]), s, at, end) {
+        Named::At { id: _, next } => {
+            if !begins_plain(s, next, end) {
+                return Met::Other;
+            }
+            match plain_at(s, next, end) {
+                Plain::Value { body, end: past } => {
+                    let byte = s[next];
+                    Met::Value(EncodedValue {
+                        start: next,
+                        annotations: next,
+                        descriptor: next,
+                        body,
+                        end: past,
+                        byte,
+                    })
+                }
+                Plain::Other => Met::Other,
+            }
+        }
+        Named::Other => Met::Other,
+    }
+}
+
 // How many items at most `most` calls hand out from a place on.
 fn count_from(
     s: &[u8],
@@ -221,13 +289,22 @@ fn count_from(
     let mut place = from;
     let mut count = 0;
     while count < most {
-        let seen = look(s, ends, fields, place);
-        let item = seen.item;
-        if is_last(item) {
-            return count;
+        match glance(s, ends, fields, place) {
+            Met::Value(value) => {
+                place = pass_value(ends, fields, place, place.depth, value);
+                count = count + 1;
+                continue;
+            }
+            Met::Other => {
+                let seen = look(s, ends, fields, place);
+                let item = seen.item;
+                if is_last(item) {
+                    return count;
+                }
+                place = pass_item(ends, fields, place, seen.depth, item);
+                count = count + 1;
+            }
         }
-        place = pass_item(ends, fields, place, seen.depth, item);
-        count = count + 1;
     }
     count
 }

@@ -84,6 +84,15 @@ var-uint-two s at end h k a b =
     ∙ groups-here 3 _ s at (at + 1) end h k b (omega arith)
     ∙ ap (λ (x : ℕ). gives (record { value = x; next = at + 1 + 1 })) (omega arith)
 
+-- a VarUInt of three bytes
+pub var-uint-three : (s : List ℕ) (at end : ℕ) → at + 1 + 1 < end → end ≤ length s → getD s at 0 < 128 → getD s (at + 1) 0 < 128 → 128 ≤ getD s (at + 1 + 1) 0 → varUInt s at end ≡ gives (record { value = (getD s at 0 * 128 + getD s (at + 1) 0 % 128) * 128 + getD s (at + 1 + 1) 0 % 128; next = at + 1 + 1 + 1 })
+var-uint-three s at end h k a b c =
+    var-uint-groups s at end (omega arith) k
+    ∙ groups-on 3 0 s at at end (omega arith) k a
+    ∙ groups-on 3 _ s at (at + 1) end (omega arith) k b
+    ∙ groups-here 3 _ s at (at + 1 + 1) end h k c (omega arith)
+    ∙ ap (λ (x : ℕ). gives (record { value = x; next = at + 1 + 1 + 1 })) (omega arith)
+
 -- a VarInt whose first byte is not the last is that byte's sign, and its six bits followed by groups
 abbrev pub signedBy : ℕ → Unsigned → Outcome Signed
 signedBy b u = gives (record { negative = eqb (b / 64 % 2) 1; magnitude = u .value; next = u .next })

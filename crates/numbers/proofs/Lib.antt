@@ -6,5 +6,6 @@ pub mod Grouping
 pub mod Packing
 pub mod Parts
 pub mod Meaning
+pub mod Short
 pub mod Frames
 pub mod Examples

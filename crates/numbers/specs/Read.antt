@@ -2,10 +2,12 @@
 -- Assumes nothing.
 use Prim.Native.Nat.{ℕ}
 use Rattle.numbers.specs.Outcome.{Outcome, gives, refuses}
-use Rattle.numbers.specs.Answers.{Unsigned, Signed, Fixed}
+use Rattle.numbers.specs.Answers.{Unsigned, Short, short, none, Signed, Fixed}
 use Rattle.numbers.specs.declared.refusal.Refusal.{Refusal}
 use Rattle.numbers.specs.declared.var_uint.VarUInt.{VarUInt}
 use Rattle.numbers.specs.declared.var_uint.VarUInt.the-variants.{Value as UnsignedValue, Refused as UnsignedRefused}
+use Rattle.numbers.specs.declared.var_uint.ShortVarUInt.{ShortVarUInt}
+use Rattle.numbers.specs.declared.var_uint.ShortVarUInt.the-variants.{Value as ShortValue, Other as ShortOther}
 use Rattle.numbers.specs.declared.var_int.VarInt.{VarInt}
 use Rattle.numbers.specs.declared.var_int.VarInt.the-variants.{Value as SignedValue, Refused as SignedRefused}
 use Rattle.numbers.specs.declared.int.Int.{Int}
@@ -17,6 +19,10 @@ refusalRead e = refuses (e .number) (e .position)
 abbrev pub varUIntRead : VarUInt → Outcome Unsigned
 varUIntRead (UnsignedValue v n) = gives (record { value = v; next = n })
 varUIntRead (UnsignedRefused e) = refusalRead e
+
+abbrev pub shortRead : ShortVarUInt → Short
+shortRead (ShortValue v n) = short (record { value = v; next = n })
+shortRead ShortOther = none
 
 abbrev pub varIntRead : VarInt → Outcome Signed
 varIntRead (SignedValue m v n) = gives (record { negative = m; magnitude = v; next = n })

@@ -5,8 +5,8 @@ ghost use mathlib.Core.Path.{_≡_};
 ghost use Prim.Native.Nat.{ℕ, _+_, _-_, _≤_, _<_, _^_};
 ghost use lib.ListN.{length};
 ghost use Rattle.numbers.specs.Outcome.{outsideOf};
-ghost use Rattle.numbers.specs.Answers.{varUInt, varInt, int, intRest};
-ghost use Rattle.numbers.specs.Read.{varUIntRead, varIntRead, intRead};
+ghost use Rattle.numbers.specs.Answers.{varUInt, shortOf, varInt, int, intRest};
+ghost use Rattle.numbers.specs.Read.{varUIntRead, shortRead, varIntRead, intRead};
 ghost use Rattle.numbers.specs.Groups.{groups};
 use crate::int::Int;
 use crate::refusal::INT_CUT;
@@ -16,6 +16,7 @@ use crate::refusal::Refusal;
 use crate::refusal::VAR_INT_CUT;
 use crate::refusal::VAR_UINT_CUT;
 use crate::var_int::VarInt;
+use crate::var_uint::ShortVarUInt;
 use crate::var_uint::VarUInt;
 
 // The most bytes that a VarUInt or a VarInt may have.
@@ -93,34 +94,56 @@ pub fn read_var_uint(s: &[u8], at: usize, end: usize) -> VarUInt
     read_groups(s, at, at, end, 0, VAR_UINT_CUT)
 }
 
-// Reads a VarUInt as `read_var_uint` does, one of one byte or two in place: most lengths and field IDs have no more.
+// Reads a VarUInt of three bytes at most: most lengths and field IDs have no more.
+pub fn short_var_uint(s: &[u8], at: usize, end: usize) -> ShortVarUInt
+    ensures { λ r. ⌜ shortRead r ≡ shortOf at (varUInt (now (s .entry)) at end) ⌝ }
+{
+    if s.len() < end {
+        return ShortVarUInt::Other;
+    }
+    if end <= at {
+        return ShortVarUInt::Other;
+    }
+    let first = wide(s[at]);
+    let after = at + 1;
+    if 128 <= first {
+        return ShortVarUInt::Value {
+            value: first % 128,
+            next: after,
+        };
+    }
+    if end <= after {
+        return ShortVarUInt::Other;
+    }
+    let second = wide(s[after]);
+    let past = after + 1;
+    let two = first * 128 + second % 128;
+    if 128 <= second {
+        return ShortVarUInt::Value {
+            value: two,
+            next: past,
+        };
+    }
+    if end <= past {
+        return ShortVarUInt::Other;
+    }
+    let third = wide(s[past]);
+    if third < 128 {
+        return ShortVarUInt::Other;
+    }
+    let next = past + 1;
+    let three = two * 128 + third % 128;
+    ShortVarUInt::Value { value: three, next }
+}
+
+// Reads a VarUInt as `read_var_uint` does, a short one in place.
 pub fn next_var_uint(s: &[u8], at: usize, end: usize) -> VarUInt
     ensures { λ r. ⌜ varUIntRead r ≡ varUInt (now (s .entry)) at end ⌝ }
 {
-    if end <= s.len() {
-        if at < end {
-            let first = wide(s[at]);
-            let after = at + 1;
-            if 128 <= first {
-                return VarUInt::Value {
-                    value: first % 128,
-                    next: after,
-                };
-            }
-            if after < end {
-                let second = wide(s[after]);
-                let past = after + 1;
-                if 128 <= second {
-                    let grown = first * 128 + second % 128;
-                    return VarUInt::Value {
-                        value: grown,
-                        next: past,
-                    };
-                }
-            }
-        }
+    match short_var_uint(s, at, end) {
+        ShortVarUInt::Value { value, next } => VarUInt::Value { value, next },
+        ShortVarUInt::Other => read_var_uint(s, at, end),
     }
-    read_var_uint(s, at, end)
 }
 
 // Reads a VarInt.

@@ -23,3 +23,4 @@ pub mod Examples
 pub mod Moves
 pub mod Naming
 pub mod Valued
+pub mod Plain

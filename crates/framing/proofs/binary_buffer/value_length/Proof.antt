@@ -1,16 +1,33 @@
--- `value_length` meets its contract: the length is read first, and tested by type after.
+-- `value_length` meets its contract: a length that the descriptor tells is the one that is read; otherwise the length is read first, and tested by type after.
 -- Assumes nothing.
 use borrow.Author.Needs.{needs}
 use Prim.Native.Nat.{_+_}
-use mathlib.Core.Path.{_∙_, ap}
+use mathlib.Core.Path.{_≡_, _∙_, sym, ap}
+use mathlib.Core.Bool.{true}
+use Rattle.numbers.specs.Outcome.{gives}
 use Rattle.numbers.proofs.Outcomes.{then-by}
-use Rattle.framing.specs.Answers.{lengthAt, lengthTests, valueLength}
+use Rattle.framing.specs.Answers.{Sized, lengthAt, lengthTests, valueLength}
 use Rattle.framing.specs.Read.{lengthRead}
+use Rattle.framing.specs.Telling.{lengthTold}
+use Rattle.framing.proofs.Telling.{told-read}
 use Rattle.framing.proofs.binary_buffer.value_length.Statement.{statement}
 use Rattle.framing.proofs.binary_buffer.value_length.Tie as tie
 
 add-after : tie.Need-add-after
 add-after c = search needs
+
+length-told-requires : tie.Need-length-told-requires
+length-told-requires c κs = search needs
+
+told-length-requires : tie.Need-told-length-requires
+told-length-requires c κs = search needs
+
+returns : tie.Need-returns
+returns c =
+    let q = c .before .before in
+    let a = q .before .before .args in
+    let h : lengthTold (a .descriptor .«type_code») (a .descriptor .«length_code») ≡ true = sym (q .length-told .ensures) ∙ c .before .if1 .taken in
+    ap (λ n. gives (record { body = a .at + 1; size = n })) (c .told-length .ensures) ∙ sym (told-read (a .s .now) (a .at) (a .end) (a .descriptor) h)
 
 value-code-requires : tie.Need-value-code-requires
 value-code-requires c κs = search needs
@@ -27,19 +44,19 @@ check-length-requires c κs = search needs
 enum-known-refusal : tie.Need-enum-known-refusal
 enum-known-refusal c = search needs
 
-returns : tie.Need-returns
-unfolding valueLength
-returns c =
-    let q = c .before .before .before .before in
-    let a = q .before .before .before .args in
-    c .check-length .ensures
-    ∙ then-by lengthRead (lengthTests (a .at) (a .descriptor .«type_code») (a .descriptor .«length_code»)) (c .before .before .body .given .1) (q .read-length .ensures ∙ ap (lengthAt (a .s .now) (a .at + 1) (a .end)) (q .before .value-code .ensures))
-
 returns-2 : tie.Need-returns-2
 unfolding valueLength
 returns-2 c =
+    let q = c .before .before .before .before in
+    let a = q .before .before .before .before .before .args in
+    c .check-length .ensures
+    ∙ then-by lengthRead (lengthTests (a .at) (a .descriptor .«type_code») (a .descriptor .«length_code»)) (c .before .before .body .given .1) (q .read-length .ensures ∙ ap (lengthAt (a .s .now) (a .at + 1) (a .end)) (q .before .value-code .ensures))
+
+returns-3 : tie.Need-returns-3
+unfolding valueLength
+returns-3 c =
     let q = c .before .before .before in
-    let a = q .before .before .before .args in
+    let a = q .before .before .before .before .before .args in
     then-by lengthRead (lengthTests (a .at) (a .descriptor .«type_code») (a .descriptor .«length_code»)) (c .before .refusal .given .1) (q .read-length .ensures ∙ ap (lengthAt (a .s .now) (a .at + 1) (a .end)) (q .before .value-code .ensures))
 
 pub value-length-spec : {M : Type 1} → statement M
@@ -47,10 +64,13 @@ value-length-spec =
     tie.close
     (tie.spec
     add-after
+    length-told-requires
+    told-length-requires
+    returns
     value-code-requires
     read-length-requires
     enum-known-body
     check-length-requires
     enum-known-refusal
-    returns
-    returns-2)
+    returns-2
+    returns-3)

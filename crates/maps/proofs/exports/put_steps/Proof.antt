@@ -10,7 +10,6 @@ use lib.Seq.{sets, length-sets}
 use Rattle.numbers.specs.Outcome.{Outcome}
 use Rattle.stepping.specs.Answers.{Item}
 use Rattle.stepping.specs.Words.{words}
-use Rattle.stepping.specs.Read.{itemRead}
 use Rattle.maps.specs.Buffer.{bytesOf, numberIn}
 use Rattle.maps.specs.Exported.{exportedStep, exportedRun, allWords, lastNumber}
 use Rattle.maps.specs.Private.{leftOf}
@@ -31,24 +30,24 @@ abbrev μ-loop : tie.MeasureT-loop
 μ-loop map start end position kind out₀ room at₀ count₀ out at count = room - count
 
 -- the answer of a call in the loop, its words, and where it leaves off
-module _ (b : tie.After-left-at Inv-loop μ-loop) where
+module _ (b : tie.After-slice-known2 Inv-loop μ-loop) where
   abbrev put : tie.After-put-words Inv-loop μ-loop
-  put = b .before .before .before
+  put = b .before .before
 
-  abbrev called : tie.After-words-of Inv-loop μ-loop
-  called = put .before .before .before
+  abbrev called : tie.After-step-words Inv-loop μ-loop
+  called = put .before .before .before .before
 
   abbrev within : tie.In-loop Inv-loop μ-loop
-  within = called .before .before
+  within = called .before
 
   abbrev o : Outcome Item
   o = let a = within .before .before .before .before .args in exportedStep (a .map .now) (a .start) (a .end) (within .before .loop .at) (a .kind)
 
-  words-are : called .words-of .result ≡ words o
-  words-are = called .words-of .ensures ∙ ap words (called .before .step-by-kind .ensures)
+  words-are : called .step-words .result .words ≡ words o
+  words-are = called .step-words .ensures .0
 
-  leaves : (x : Left) → b .left-at .result ≡ x → leftOf o ≡ x
-  leaves x h = sym (ap leftOf (called .before .step-by-kind .ensures)) ∙ sym (b .left-at .ensures) ∙ h
+  leaves : (x : Left) → called .step-words .result .left ≡ x → leftOf o ≡ x
+  leaves x h = sym (called .step-words .ensures .1) ∙ h
 
   room-is : let a = within .before .before .before .before .args in length (a .out .now) / 64 - within .before .loop .count ≡ suc (length (a .out .now) / 64 - (within .before .loop .count + 1))
   room-is = omega (arith, within .loop-test .taken)
@@ -71,29 +70,24 @@ loop-holds c =
     let run : ℕ → List (Outcome Item) = λ k. exportedRun k (a .map .now) (a .start) (a .end) (a .position) (a .kind) in
     (refl, omega arith, omega arith, ap (λ (k : ℕ). sets (a .out .now) 0 (bytesOf (allWords (run k)))) e, (let f : length (run (length (a .out .now) / 64 - 0)) ≡ length (run (length (a .out .now) / 64)) = ap (λ (k : ℕ). length (run k)) e in omega (arith, f)), ap (λ (k : ℕ). lastNumber 0 (run k)) e)
 
-step-by-kind-requires : tie.Need-step-by-kind-requires Inv-loop μ-loop
-step-by-kind-requires c κs = search needs
-
-words-of-requires : tie.Need-words-of-requires Inv-loop μ-loop
-words-of-requires c κs = search needs
+step-words-requires : tie.Need-step-words-requires Inv-loop μ-loop
+step-words-requires c κs = search needs
 
 mul-put-words : tie.Need-mul-put-words Inv-loop μ-loop
 mul-put-words c = omega (arith, c .before .before .before .loop-test .taken, c .before .before .before .before .loop .inv .2)
 
 put-words-requires : tie.Need-put-words-requires Inv-loop μ-loop
 put-words-requires c κs =
-    let w = c .before .before in
-    let l = w .before .before .before .loop in
-    (ap length (w .words-of .ensures ∙ ap words (w .before .step-by-kind .ensures)) ∙ words-eight (exportedStep (w .before .before .before .before .before .before .args .map .now) (w .before .before .before .before .before .before .args .start) (w .before .before .before .before .before .before .args .end) (l .at) (w .before .before .before .before .before .before .args .kind)), omega (arith, w .before .before .loop-test .taken, l .inv .0, l .inv .2))
+    let q = c .before .before .before in
+    let a = q .before .before .before .before .before .args in
+    let l = q .before .before .loop in
+    (ap length (q .step-words .ensures .0) ∙ words-eight (exportedStep (a .map .now) (a .start) (a .end) (l .at) (a .kind)), omega (arith, q .before .loop-test .taken, l .inv .0, l .inv .2))
 
 add-count : tie.Need-add-count Inv-loop μ-loop
 add-count c = search needs
 
-left-at-requires : tie.Need-left-at-requires Inv-loop μ-loop
-left-at-requires c κs = search needs
-
-enum-known-next : tie.Need-enum-known-next Inv-loop μ-loop
-enum-known-next c = search needs
+enum-known-left : tie.Need-enum-known-left Inv-loop μ-loop
+enum-known-left c = search needs
 
 loop-less : tie.Need-loop-less Inv-loop μ-loop
 loop-less c = omega (arith, within (c .before .before .before) .loop-test .taken)
@@ -102,15 +96,14 @@ loop-again : tie.Need-loop-again Inv-loop μ-loop
 loop-again c =
     let b = c .before .before .before in
     let p = put b in
-    let w = called b in
     let t = within b in
     let l = t .before .loop in
     let a = t .before .before .before .before .args in
-    let e = c .before .next .given .0 .0 in
-    let h : leftOf (o b) ≡ At e = leaves b (At e) (c .before .next .given .1) in
+    let e = c .before .left .given .0 .0 in
+    let h : leftOf (o b) ≡ At e = leaves b (At e) (c .before .left .given .1) in
     let os = exportedRun (length (a .out .now) / 64 - (l .count + 1)) (a .map .now) (a .start) (a .end) e (a .kind) in
     let m = one-more (a .map .now) (a .start) (a .end) (l .at) (a .kind) (room-is b) e h in
-    (ap length (p .put-words .ensures) ∙ length-sets (l .out) (l .count * 64) (bytesOf (w .words-of .result)) ∙ l .inv .0, omega (arith, t .loop-test .taken), l .inv .2, stored b os m, omega (arith, l .inv .4, ap length m), sym (ap (λ (n : ℕ). lastNumber n os) (at-number (o b) e h)) ∙ sym (ap (lastNumber 0) m) ∙ l .inv .5)
+    (ap length (p .put-words .ensures) ∙ length-sets (l .out) (l .count * 64) (bytesOf (called b .step-words .result .words)) ∙ l .inv .0, omega (arith, t .loop-test .taken), l .inv .2, stored b os m, omega (arith, l .inv .4, ap length m), sym (ap (λ (n : ℕ). lastNumber n os) (at-number (o b) e h)) ∙ sym (ap (lastNumber 0) m) ∙ l .inv .5)
 
 enum-told : tie.Need-enum-told Inv-loop μ-loop
 enum-told c = search needs
@@ -121,9 +114,8 @@ number-in-requires c κs = search needs
 same-length : tie.Need-same-length Inv-loop μ-loop
 same-length c =
     let p = put (c .before .before .before .before) in
-    let w = called (c .before .before .before .before) in
     let l = within (c .before .before .before .before) .before .loop in
-    ap length (p .put-words .ensures) ∙ length-sets (l .out) (l .count * 64) (bytesOf (w .words-of .result)) ∙ l .inv .0
+    ap length (p .put-words .ensures) ∙ length-sets (l .out) (l .count * 64) (bytesOf (called (c .before .before .before .before) .step-words .result .words)) ∙ l .inv .0
 
 returns : tie.Need-returns Inv-loop μ-loop
 returns c =
@@ -152,13 +144,11 @@ put-steps-spec =
     Inv-loop
     μ-loop
     loop-holds
-    step-by-kind-requires
-    words-of-requires
+    step-words-requires
     mul-put-words
     put-words-requires
     add-count
-    left-at-requires
-    enum-known-next
+    enum-known-left
     loop-less
     loop-again
     enum-told

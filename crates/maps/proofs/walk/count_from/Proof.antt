@@ -3,11 +3,14 @@
 use borrow.Author.Needs.{needs}
 use Prim.Native.Nat.{ℕ, suc, _+_, _-_, _≤_}
 use native.Mathlib.Omega.{arith}
-use mathlib.Core.Path.{_≡_, refl, _∙_, sym, ap}
+use mathlib.Core.Path.{_≡_, _∙_, sym, ap, subst}
+use Rattle.framing.specs.declared.encoded_value.EncodedValue.{EncodedValue}
 use Rattle.maps.specs.Walk.{Visit}
 use Rattle.maps.specs.Calls.{visitOf, past, isLast, calls}
 use Rattle.maps.specs.Exported.{itemsIn}
-use Rattle.maps.specs.Private.{stateOf, seenRead}
+use Rattle.maps.specs.Private.{stateOf}
+use Rattle.maps.specs.InPlace.{ToldIn}
+use Rattle.maps.specs.declared.walk.Met.the-variants.{Value}
 use Rattle.maps.specs.declared.walk.Walk.{Walk}
 use Rattle.maps.proofs.Seeking.{visit-depth}
 use Rattle.maps.proofs.Counting.{none-called, last-called, one-called}
@@ -21,8 +24,21 @@ Inv-loop s ends₀ fields₀ most place₀ count₀ ends fields place count =
 abbrev μ-loop : tie.MeasureT-loop
 μ-loop s ends₀ fields₀ most place₀ count₀ ends fields place count = most - count
 
+-- the loop's place, from the glance and from the call behind it
+abbrev met : tie.After-glance Inv-loop μ-loop → tie.In-loop Inv-loop μ-loop
+met g = g .before .before .before
+
+abbrev looked : tie.After-look Inv-loop μ-loop → tie.In-loop Inv-loop μ-loop
+looked k = met (k .before .before .before .before .before)
+
+-- what the glance told of a value
+told : (g : tie.After-glance Inv-loop μ-loop) (v : EncodedValue) → g .glance .result ≡ Value v → let l = met g .before .loop in ToldIn (met g .before .before .before .args .s .now) (stateOf (l .ends) (l .fields) (l .place)) (Value v)
+told g v h =
+    let l = met g .before .loop in
+    subst (ToldIn (met g .before .before .before .args .s .now) (stateOf (l .ends) (l .fields) (l .place))) h (g .glance .ensures)
+
 -- whether the answer of a call in the loop is the last
-lasts : (c : tie.After-is-last Inv-loop μ-loop) → let l = c .before .before .before .before .before .loop in let a = c .before .before .before .before .before .before .before .args in isLast (visitOf (a .s .now) (stateOf (l .ends) (l .fields) (l .place)) .answer) ≡ c .is-last .result
+lasts : (c : tie.After-is-last Inv-loop μ-loop) → let t = looked (c .before) in let l = t .before .loop in isLast (visitOf (t .before .before .before .args .s .now) (stateOf (l .ends) (l .fields) (l .place)) .answer) ≡ c .is-last .result
 lasts c = sym (ap (λ (v : Visit). isLast (v .answer)) (c .before .look .ensures)) ∙ sym (c .is-last .ensures)
 
 loop-holds : tie.Need-loop-holds Inv-loop μ-loop
@@ -31,6 +47,40 @@ loop-holds c =
     let e : a .most - 0 ≡ a .most = omega arith in
     let f : itemsIn (calls (a .most - 0) (a .s .now) (stateOf (a .ends .now) (a .fields .now) (a .from))) ≡ itemsIn (calls (a .most) (a .s .now) (stateOf (a .ends .now) (a .fields .now) (a .from))) = ap (λ (k : ℕ). itemsIn (calls k (a .s .now) (stateOf (a .ends .now) (a .fields .now) (a .from)))) e in
     (omega arith, omega (arith, f))
+
+glance-requires : tie.Need-glance-requires Inv-loop μ-loop
+glance-requires c κs = search needs
+
+enum-known-value : tie.Need-enum-known-value Inv-loop μ-loop
+enum-known-value c = search needs
+
+pass-value-requires : tie.Need-pass-value-requires Inv-loop μ-loop
+pass-value-requires c κs =
+    let v = c .before .before .before .value .given in
+    told (c .before .before .before .before .before) (v .0 .0) (v .1) .0
+
+add-count : tie.Need-add-count Inv-loop μ-loop
+add-count c = search needs
+
+loop-less : tie.Need-loop-less Inv-loop μ-loop
+loop-less c = search needs
+
+loop-again : tie.Need-loop-again Inv-loop μ-loop
+loop-again c =
+    let v = c .before .before .before .before .value .given in
+    let g = c .before .before .before .before .before .before in
+    let t = met g in
+    let l = t .before .loop in
+    let a = t .before .before .before .args in
+    let w = stateOf (l .ends) (l .fields) (l .place) in
+    let h = told g (v .0 .0) (v .1) in
+    let q : a .most - l .count ≡ suc (a .most - (l .count + 1)) = omega (arith, t .loop-test .taken) in
+    let m = one-called (a .s .now) w q (h .1) in
+    let n = ap (λ (x : Walk). itemsIn (calls (a .most - (l .count + 1)) (a .s .now) x)) (c .pass-value .ensures ∙ sym (h .2)) in
+    (omega (arith, t .loop-test .taken), omega (arith, l .inv .1, m, n))
+
+enum-told : tie.Need-enum-told Inv-loop μ-loop
+enum-told c = search needs
 
 look-requires : tie.Need-look-requires Inv-loop μ-loop
 look-requires c κs = search needs
@@ -41,7 +91,7 @@ is-last-requires c κs = search needs
 returns : tie.Need-returns Inv-loop μ-loop
 returns c =
     let i = c .before in
-    let t = i .before .before .before .before in
+    let t = looked (i .before) in
     let l = t .before .loop in
     let a = t .before .before .before .args in
     let q : a .most - l .count ≡ suc (a .most - (l .count + 1)) = omega (arith, t .loop-test .taken) in
@@ -50,22 +100,22 @@ returns c =
 pass-item-requires : tie.Need-pass-item-requires Inv-loop μ-loop
 pass-item-requires c κs =
     let k = c .before .before .before .before in
-    let l = k .before .before .before .before .loop in
-    let a = k .before .before .before .before .before .before .args in
+    let l = looked k .before .loop in
+    let a = looked k .before .before .before .args in
     let e : k .look .result .depth ≡ visitOf (a .s .now) (stateOf (l .ends) (l .fields) (l .place)) .depth = ap (λ (v : Visit). v .depth) (k .look .ensures) in
     omega (arith, e, visit-depth (a .s .now) (stateOf (l .ends) (l .fields) (l .place)))
 
-add-count : tie.Need-add-count Inv-loop μ-loop
-add-count c = search needs
+add-count-2 : tie.Need-add-count-2 Inv-loop μ-loop
+add-count-2 c = search needs
 
-loop-less : tie.Need-loop-less Inv-loop μ-loop
-loop-less c = search needs
+loop-less-2 : tie.Need-loop-less-2 Inv-loop μ-loop
+loop-less-2 c = search needs
 
-loop-again : tie.Need-loop-again Inv-loop μ-loop
-loop-again c =
+loop-again-2 : tie.Need-loop-again-2 Inv-loop μ-loop
+loop-again-2 c =
     let i = c .before .before .before .before in
     let k = i .before in
-    let t = k .before .before .before in
+    let t = looked k in
     let l = t .before .loop in
     let a = t .before .before .before .args in
     let w = stateOf (l .ends) (l .fields) (l .place) in
@@ -88,11 +138,18 @@ count-from-spec =
     Inv-loop
     μ-loop
     loop-holds
+    glance-requires
+    enum-known-value
+    pass-value-requires
+    add-count
+    loop-less
+    loop-again
+    enum-told
     look-requires
     is-last-requires
     returns
     pass-item-requires
-    add-count
-    loop-less
-    loop-again
+    add-count-2
+    loop-less-2
+    loop-again-2
     returns-2)

@@ -1,0 +1,29 @@
+-- What a descriptor tells of its value's length by itself: most values need no more than this to be framed.
+-- Assumes nothing.
+use Prim.Native.Nat.{ℕ, zero, suc, _+_, _^_}
+use mathlib.Core.Bool.{Bool, false, not}
+use lib.Dec.{ltb, eqb}
+use Rattle.numbers.specs.Outcome.{pick}
+use Rattle.numbers.specs.Descriptor.{kindOf}
+use Rattle.framing.specs.Answers.{noValue, valueCode, badFloat, shortTimestamp}
+
+-- "Codes 0 to 13 are the length; 15 is length 0. Null and bool: length 0 at every code."
+unfoldable pub toldLength : ℕ → ℕ → ℕ
+toldLength type code = pick (ltb type 2) 0 (pick (eqb code 15) 0 code)
+
+-- a value's descriptor, of a length that "14 reads a VarUInt" does not say and that 30 and 31 do not refuse
+unfoldable pub lengthTold : ℕ → ℕ → Bool
+lengthTold type code =
+    pick (ltb 15 code) false
+    (pick (noValue (kindOf type code)) false
+    (pick (eqb (valueCode type code) 14) false
+    (pick (badFloat type code) false (not (shortTimestamp type code (toldLength type code))))))
+
+-- a number with a bit for each place below n where a test holds
+abbrev pub bits : ℕ → (ℕ → Bool) → ℕ
+bits zero p = 0
+bits (suc n) p = pick (p n) (2 ^ n) 0 + bits n p
+
+-- the length codes of a type code that tell a length, a bit for each
+unfoldable pub tellingOf : ℕ → ℕ
+tellingOf type = bits 16 (lengthTold type)
