@@ -7,13 +7,15 @@ use Rattle.numbers.specs.Outcome.{pick}
 use Rattle.numbers.specs.Descriptor.{kindOf}
 use Rattle.framing.specs.Answers.{noValue, valueCode, badFloat, shortTimestamp}
 
--- "Codes 0 to 13 are the length; 15 is length 0. Null and bool: length 0 at every code."
+-- "Codes 0 to 13 are the length", "15 is length 0", "Null and bool: length 0 at every code": the length that a descriptor tells, where it tells one (`tellsLength`);
+-- of others it means nothing
 unfoldable pub toldLength : ℕ → ℕ → ℕ
 toldLength type code = pick (ltb type 2) 0 (pick (eqb code 15) 0 code)
 
--- a value's descriptor, of a length that "14 reads a VarUInt" does not say and that 30 and 31 do not refuse
-unfoldable pub lengthTold : ℕ → ℕ → Bool
-lengthTold type code =
+-- whether a descriptor tells its value's length by itself: it begins a value, no VarUInt is read ("14 reads a VarUInt", "Struct code 1 (ordered) reads a VarUInt"),
+-- and 30 and 31 do not refuse it; no byte has a length code above 15
+unfoldable pub tellsLength : ℕ → ℕ → Bool
+tellsLength type code =
     pick (ltb 15 code) false
     (pick (noValue (kindOf type code)) false
     (pick (eqb (valueCode type code) 14) false
@@ -26,4 +28,4 @@ bits (suc n) p = pick (p n) (2 ^ n) 0 + bits n p
 
 -- the length codes of a type code that tell a length, a bit for each
 unfoldable pub tellingOf : ℕ → ℕ
-tellingOf type = bits 16 (lengthTold type)
+tellingOf type = bits 16 (tellsLength type)

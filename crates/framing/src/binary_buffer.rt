@@ -6,7 +6,7 @@ ghost use Prim.Native.Nat.{_+_, _≤_, _<_, _^_};
 ghost use lib.ListN.{length};
 ghost use Rattle.framing.specs.Answers.{begun, isPad, isWrapper, noValue, lengthAt, valueCode, badFloat, shortTimestamp, emptyOrdered, lengthTests, valueLength, padAt, wrapperTests, wrapperAt, valueAt, frameAt, readValue, readFrame, readValueLength, readPad, readWrapper};
 ghost use Rattle.framing.specs.Opened.{openedRead, innerAt, openedWrapper, openedAt, differsFrom, closed, openedValue};
-ghost use Rattle.framing.specs.Telling.{lengthTold, toldLength, tellingOf};
+ghost use Rattle.framing.specs.Telling.{tellsLength, toldLength, tellingOf};
 ghost use Rattle.framing.specs.Read.{begunRead, lengthRead, padRead, wrapperRead, framedRead, frameRead};
 use crate::encoded_value::AnnotationsWrapper;
 use crate::encoded_value::EncodedValue;
@@ -161,8 +161,8 @@ fn telling(type_code: u8) -> u16
 }
 
 // Whether a value's descriptor tells its length: no VarUInt says it, and no test of it fails.
-pub fn length_told(type_code: u8, length_code: u8) -> bool
-    ensures { λ r. ⌜ r ≡ lengthTold «type_code» «length_code» ⌝ }
+pub fn tells_length(type_code: u8, length_code: u8) -> bool
+    ensures { λ r. ⌜ r ≡ tellsLength «type_code» «length_code» ⌝ }
 {
     if 15 < type_code {
         return false;
@@ -275,7 +275,7 @@ fn value_length(s: &[u8], at: usize, end: usize, descriptor: TypeDescriptor) -> 
     ensures { λ r. ⌜ lengthRead r ≡ valueLength (now (s .entry)) at end descriptor ⌝ }
 {
     let after = at + 1;
-    if length_told(descriptor.type_code, descriptor.length_code) {
+    if tells_length(descriptor.type_code, descriptor.length_code) {
         let size = told_length(descriptor.type_code, descriptor.length_code);
         return Length::Known { body: after, size };
     }

@@ -2,14 +2,14 @@
 -- Assumes nothing.
 use Prim.Native.Nat.{ℕ, zero, suc, _+_, _-_, _≤_, _<_}
 use native.Mathlib.Omega.{arith}
-use borrow.Author.Tests.{ltb-true, ltb-false, leb-true, leb-false, eqb-true, eqb-false, ne-eqb, le-ltb}
+use borrow.Author.Tests.{ltb-true, ltb-false, leb-true, leb-false, eqb-true, eqb-false, eq-eqb, ne-eqb, le-ltb}
 use mathlib.Core.Path.{_≡_, refl, _∙_, sym, ap}
 use mathlib.Core.Bool.{Bool, true, false, true≢false}
 use mathlib.Core.List.{List}
 use lib.ListN.{length, getD}
 use lib.Dec.{ltb, leb, eqb}
 use Rattle.numbers.specs.Outcome.{Outcome, gives, refuses, pick}
-use Rattle.numbers.specs.Answers.{Unsigned, varUInt}
+use Rattle.numbers.specs.Answers.{Unsigned}
 use Rattle.numbers.proofs.Outcomes.{by-test, by-case}
 use Rattle.framing.specs.Answers.{Spans, valued, readFrame}
 use Rattle.framing.specs.Read.{spansOf}
@@ -75,10 +75,7 @@ fields-of kind h =
     by-case (eqb kind 0) (λ z. rw (eqb-true kind 0 z)) (λ z.
     rw z
     (by-case (eqb kind 1) (λ o. rw (eqb-true kind 1 o)) (λ o.
-    rw o (sym (eq-two (omega (arith, eqb-false kind 0 z, eqb-false kind 1 o)))))))
-  where
-    eq-two : kind ≡ 2 → eqb kind 2 ≡ true
-    eq-two e = rw e
+    rw o (sym (eq-eqb kind 2 (omega (arith, eqb-false kind 0 z, eqb-false kind 1 o)))))))
 
 -- where a name ends
 abbrev nextIn : Outcome Unsigned → ℕ
@@ -148,8 +145,8 @@ module _ (s : List ℕ) (w : Walk) (f : Bool) (a id : ℕ) where
   behind-plain v true = refl
   behind-plain v false = refl
 
-  pub glanced : (v : EncodedValue) → w .depth ≤ deepest → w .deep ≡ false → answerAt (rulesAt w (w .depth)) s (w .at) (endAt w (w .depth)) ≡ gives (plainItem f a id (spansOf v)) → ToldIn s w (MetValue v)
+  pub met-in-place : (v : EncodedValue) → w .depth ≤ deepest → w .deep ≡ false → answerAt (rulesAt w (w .depth)) s (w .at) (endAt w (w .depth)) ≡ gives (plainItem f a id (spansOf v)) → ToldIn s w (MetValue v)
   unfolding visitOf
-  glanced v h n e =
+  met-in-place v h n e =
       let q : visitOf s w ≡ visit (w .depth) (gives (plainItem f a id (spansOf v))) = not-picked (ltb deepest (w .depth)) _ _ (le-ltb deepest (w .depth) h) ∙ not-picked (w .deep) _ _ n ∙ seek-plain (spansOf v) (w .depth) (w .at) e in
       (h, rw q (not-last (spansOf v) f), rw q (behind-plain (spansOf v) f))

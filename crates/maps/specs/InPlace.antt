@@ -1,4 +1,4 @@
--- What private code says of an item that it reads in place, a value without annotations: it says so, or nothing. Callers of the crate need none of this.
+-- What private code tells of a value without annotations that it reads in place: its spans, or nothing. Callers of the crate need none of this.
 -- Assumes nothing.
 use Prim.Native.Nat.{ℕ, _+_, _-_, _≤_}
 use mathlib.Core.Path.{_≡_}
@@ -21,7 +21,7 @@ use Rattle.maps.specs.declared.walk.Met.{Met}
 use Rattle.maps.specs.declared.walk.Met.the-variants.{Value as MetValue, Other as NoneMet}
 use Rattle.maps.specs.declared.walk.Walk.{Walk}
 
--- the item that a value is: among fields one with its ID, which starts at `at`
+-- the item that a value is: among fields a field, which starts at its ID, at `at`
 abbrev pub plainItem : Bool → ℕ → ℕ → Spans → Item
 plainItem fields at id v = pick fields (field id at v) (value v)
 
@@ -41,20 +41,20 @@ ToldName fields s at end (At i n) =
     pick fields (varUInt s at end) (gives (record { value = 0; next = at })) ≡ gives (record { value = i; next = n })
 ToldName fields s at end Unnamed = Unit {0}
 
--- a body that fits
+-- a body of `size` bytes, told where it fits
 abbrev pub fitted : ℕ → ℕ → ℕ → Plain
 fitted body size end = pick (ltb (end - body) size) Other (Value body (body + size))
 
--- a byte in the part that begins neither a wrapper nor a marker, and is not reserved
+-- a byte below E0 stands at `at`, in the part: one of a value, a null or a pad
 abbrev pub beginsPlain : List ℕ → ℕ → ℕ → Bool
 beginsPlain s at end = pick (leb end at) false (ltb (getD s at 0) 224)
 
--- a position in a part of the slice, and a part's kind
+-- what 50 tests: a position in the part start..end of the slice, and a kind of 2 at most
 abbrev pub insideOf : List ℕ → ℕ → ℕ → ℕ → ℕ → Bool
 insideOf s start end at kind =
     pick (ltb at start) false (pick (ltb 2 kind) false (pick (ltb end at) false (leb end (length s))))
 
--- what is told of the value that a walk meets: it is not the last answer, and the walk goes on behind it
+-- what is told of the value that a walk meets: the answer is not the last, and the next state is the one past this value (in its body, if it is a container)
 abbrev pub ToldIn : List ℕ → Walk → Met → Type 0
 ToldIn s w (MetValue v) =
     (w .depth ≤ deepest) × (isLast (visitOf s w .answer) ≡ false) × (past w (visitOf s w) ≡ pastValue w (w .depth) (spansOf v))

@@ -493,7 +493,7 @@ struct Stepped {
     left: Left,
 }
 
-// The words of a value or a field.
+// The words of a value that is read in place: a field's among fields.
 fn plain_words(fields: bool, at: usize, id: usize, value: EncodedValue) -> [u64; 8]
     ensures { λ r. ⌜ r ≡ words (gives (plainItem fields at id (spansOf value))) ⌝ }
 {
@@ -503,7 +503,7 @@ fn plain_words(fields: bool, at: usize, id: usize, value: EncodedValue) -> [u64;
     value_words(2, value.start, value, 0)
 }
 
-// Whether `at` is in the part start..end of the map, and the part's kind is one.
+// Whether `at` is in the part start..end of the map, and `kind` is 0, 1 or 2.
 fn inside(map: &[u8], start: usize, end: usize, at: usize, kind: u64) -> bool
     ensures { λ r. ⌜ r ≡ insideOf (now (map .entry)) start end at kind ⌝ }
 {

@@ -1,7 +1,7 @@
 // Walks whole maps of the Ion 1.0 binary encoding, and exports the steps to other languages.
 //
-// Most items are values without annotations whose first bytes tell their span. The walk and the exported steps read those here, in place; a step
-// reads the others.
+// Most items are values without annotations whose first bytes tell their span. The walk's count and the exported run of steps read those here, in place;
+// of the others nothing is told here, and a step reads them.
 ghost use mathlib.Core.Path.{_≡_};
 ghost use Prim.Native.Nat.{_≤_, _<_};
 ghost use lib.ListN.{length, getD};
@@ -11,7 +11,7 @@ pub mod exports;
 pub mod reader;
 pub mod walk;
 
-use framing::binary_buffer::length_told;
+use framing::binary_buffer::tells_length;
 use framing::binary_buffer::told_length;
 use numbers::binary_buffer::short_var_uint;
 use numbers::var_uint::ShortVarUInt;
@@ -22,13 +22,13 @@ enum Plain {
     Other,
 }
 
-// The field ID before an item, 0 outside structs, and where it ends, where its first bytes tell them.
+// The field ID before an item, 0 outside structs, and where it ends; nothing where it has more than three bytes or is refused.
 enum Named {
     At { id: usize, next: usize },
     Other,
 }
 
-// What stands before an item at `at`: a field ID, among fields.
+// The field ID at `at`, among fields; elsewhere nothing stands before an item.
 fn name_at(fields: bool, s: &[u8], at: usize, end: usize) -> Named
     ensures { λ r. ⌜ ToldName fields (now (s .entry)) at end r ⌝ }
 {
@@ -41,7 +41,7 @@ fn name_at(fields: bool, s: &[u8], at: usize, end: usize) -> Named
     }
 }
 
-// Whether something stands at `at` that is neither a wrapper nor a marker.
+// Whether a byte below E0 stands at `at`: one of a value, a null or a pad.
 fn begins_plain(s: &[u8], at: usize, end: usize) -> bool
     requires { ⌜ end ≤ length (now s) ⌝ }
     ensures { λ r. ⌜ r ≡ beginsPlain (now (s .entry)) at end ⌝ }
@@ -64,14 +64,15 @@ fn fitting(body: usize, size: usize, end: usize) -> Plain
     Plain::Value { body, end: past }
 }
 
-// The value at `at`.
+// The body and the end of the value at `at`, where its descriptor tells its length, or a VarUInt of three bytes at most does, and it fits. 0E begins a
+// pad, 4E is refused, and 6E may be: a step says how.
 fn plain_at(s: &[u8], at: usize, end: usize) -> Plain
     requires { ⌜ (at < end) × (end ≤ length (now s)) × (getD (now s) at 0 < 224) ⌝ }
     ensures { λ r. ⌜ Told (now (s .entry)) at end r ⌝ }
 {
     let byte = s[at];
     let after = at + 1;
-    if length_told(byte / 16, byte % 16) {
+    if tells_length(byte / 16, byte % 16) {
         return fitting(after, told_length(byte / 16, byte % 16), end);
     }
     if byte % 16 != 14 {

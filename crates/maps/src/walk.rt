@@ -232,8 +232,8 @@ enum Met {
     Other,
 }
 
-// The value at a place.
-fn glance(s: &[u8], ends: &[usize; 33], fields: &[bool; 33], place: Place) -> Met
+// The value without annotations at a place, where its first bytes tell it; nothing at a part's end, outside the slice or too deep.
+fn value_in_place(s: &[u8], ends: &[usize; 33], fields: &[bool; 33], place: Place) -> Met
     ensures { λ r. ⌜ ToldIn (now (s .entry)) (stateOf (now (ends .entry)) (now (fields .entry)) place) r ⌝ }
 {
     let depth = place.depth;
@@ -289,7 +289,7 @@ fn count_from(
     let mut place = from;
     let mut count = 0;
     while count < most {
-        match glance(s, ends, fields, place) {
+        match value_in_place(s, ends, fields, place) {
             Met::Value(value) => {
                 place = pass_value(ends, fields, place, place.depth, value);
                 count = count + 1;

@@ -10,12 +10,13 @@ use lib.ListN.{length, getD}
 use lib.Dec.{leb}
 use borrow.Author.Tests.{le-leb, lt-leb}
 use Rattle.numbers.specs.Outcome.{Outcome, gives, refuses}
-use Rattle.numbers.specs.Answers.{Unsigned, unsigned, varUInt, short, none, shortOf}
+use Rattle.numbers.specs.Answers.{Unsigned, unsigned, varUInt}
+use Rattle.numbers.specs.Short.{short, none, shortOf}
 use Rattle.numbers.specs.Meaning.{NumberAt}
 use Rattle.numbers.proofs.Outcomes.{by-test, each-of}
 use Rattle.numbers.proofs.Meaning.{ReadAt, var-uint-at, found-at, Bounded, var-uint-bounded}
 
--- what is given as a short VarUInt is given
+-- a short VarUInt is what the reading gives
 pub short-given : (at : ℕ) (o : Outcome Unsigned) {u : Unsigned} → shortOf at o ≡ short u → o ≡ gives u
 short-given at (gives v) {u} =
     by-test (λ x. x ≡ short u → gives v ≡ gives u) (leb (v .next) (at + 3)) (λ _ e. cc) (λ _ e. absurd (let z : _≡_ {A = ℕ} 0 1 = cc in omega arith))

@@ -14,11 +14,11 @@ abbrev pub holds : (ℕ → ℕ) → ℕ → List ℕ → Bool
 holds rule i [] = true
 holds rule i (x ∷ xs) = pick (eqb x (rule i)) (holds rule (suc i) xs) false
 
-first-test : (a b : Bool) → T (pick a b false) → T a
+pub first-test : (a b : Bool) → T (pick a b false) → T a
 first-test true b h = tt
 first-test false b h = h
 
-second-test : (a b : Bool) → T (pick a b false) → T b
+pub second-test : (a b : Bool) → T (pick a b false) → T b
 second-test true b h = h
 second-test false b h = absurd h
 

@@ -43,15 +43,6 @@ unsigned s at next = record { value = varUIntOf (part s at next); next = next }
 unfoldable pub varUInt : List ℕ → ℕ → ℕ → Outcome Unsigned
 varUInt s at end = varNumber 3 (unsigned s at) s at end
 
--- a VarUInt of three bytes at most, and nothing where it has more or is refused
-pub data Short : Type 0 where
-  short : Unsigned → Short
-  none : Short
-
-abbrev pub shortOf : ℕ → Outcome Unsigned → Short
-shortOf at (gives u) = pick (leb (u .next) (at + 3)) (short u) none
-shortOf at (refuses number position) = none
-
 -- a VarInt's sign and magnitude, and where it ends; negative zero is negative with magnitude 0
 pub record Signed : Type 0 where
   pub negative : Bool

@@ -1,6 +1,7 @@
 pub mod Format
 pub mod Outcome
 pub mod Answers
+pub mod Short
 pub mod Descriptor
 pub mod Read
 pub mod Groups

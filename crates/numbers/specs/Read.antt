@@ -2,7 +2,8 @@
 -- Assumes nothing.
 use Prim.Native.Nat.{ℕ}
 use Rattle.numbers.specs.Outcome.{Outcome, gives, refuses}
-use Rattle.numbers.specs.Answers.{Unsigned, Short, short, none, Signed, Fixed}
+use Rattle.numbers.specs.Answers.{Unsigned, Signed, Fixed}
+use Rattle.numbers.specs.Short.{Short, short, none}
 use Rattle.numbers.specs.declared.refusal.Refusal.{Refusal}
 use Rattle.numbers.specs.declared.var_uint.VarUInt.{VarUInt}
 use Rattle.numbers.specs.declared.var_uint.VarUInt.the-variants.{Value as UnsignedValue, Refused as UnsignedRefused}

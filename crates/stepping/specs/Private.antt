@@ -1,6 +1,6 @@
 -- How private code takes a tile apart, so that a frame is read in one place for all rules: what the rules want before it, then the frame; and what value a
--- step's answer is. `Naming.tile-named` and `Valued.value-stepped` in `proofs/` say that these make `tileAt` and `readValue`; callers of the crate need
--- none of this.
+-- step's answer is. `Naming.tile-named` and `Valued.value-stepped` in `proofs/` say that these make `tileAt` and `readValue`. Callers of the
+-- crate's functions need none of this; the proofs of the crate above cite it by `Plain.plain-stepped`.
 -- Assumes nothing.
 use Prim.Native.Nat.{ℕ}
 use mathlib.Core.Bool.{Bool, false}

@@ -5,9 +5,9 @@ use Prim.Native.Nat.{ℕ, _+_, _/_, _%_, _≤_, _<_}
 use native.Mathlib.Omega.{arith}
 use mathlib.Core.Path.{_≡_, _∙_, sym, ap}
 use lib.ListN.{length, getD}
-use Rattle.numbers.specs.Answers.{Unsigned, varUInt, short, shortOf}
+use Rattle.numbers.specs.Answers.{Unsigned, varUInt}
+use Rattle.numbers.specs.Short.{short, shortOf}
 use Rattle.numbers.specs.Read.{shortRead}
-use Rattle.numbers.specs.declared.var_uint.ShortVarUInt.{ShortVarUInt}
 use Rattle.numbers.specs.declared.var_uint.ShortVarUInt.the-variants.{Value}
 use Rattle.numbers.proofs.Short.{short-given, short-bounded}
 use Rattle.framing.specs.Telling.{toldLength}
@@ -17,7 +17,7 @@ use Rattle.maps.proofs.plain_at.Statement.{statement}
 use Rattle.maps.proofs.plain_at.Tie as tie
 
 -- the part is one of the slice
-in-part : (q : tie.After-length-told) → let a = q .before .before .before .args in (a .at < a .end) × (a .end ≤ length (a .s .now))
+in-part : (q : tie.After-tells-length) → let a = q .before .before .before .args in (a .at < a .end) × (a .end ≤ length (a .s .now))
 in-part q = let p = q .before .before .before .pre in (p .0, p .1)
 
 -- a length that was read
@@ -30,8 +30,8 @@ shared-slice-read-byte c = search needs
 add-after : tie.Need-add-after
 add-after c = search needs
 
-length-told-requires : tie.Need-length-told-requires
-length-told-requires c κs = search needs
+tells-length-requires : tie.Need-tells-length-requires
+tells-length-requires c κs = search needs
 
 told-length-requires : tie.Need-told-length-requires
 told-length-requires c κs = search needs
@@ -46,7 +46,7 @@ returns c =
     let s = a .s .now in
     rw (c .fitting .ensures, c .before .told-length .ensures)
     (fitted-told s (a .at) (a .end) (a .at + 1) (toldLength (getD s (a .at) 0 / 16) (getD s (a .at) 0 % 16)) (λ f.
-    told-framed s (a .at) (a .end) (in-part q .0) (in-part q .1) (sym (q .length-told .ensures) ∙ c .before .before .if1 .taken) f))
+    told-framed s (a .at) (a .end) (in-part q .0) (in-part q .1) (sym (q .tells-length .ensures) ∙ c .before .before .if1 .taken) f))
 
 returns-2 : tie.Need-returns-2
 returns-2 c = search needs
@@ -93,7 +93,7 @@ plain-at-spec =
     (tie.spec
     shared-slice-read-byte
     add-after
-    length-told-requires
+    tells-length-requires
     told-length-requires
     fitting-requires
     returns

@@ -4,7 +4,7 @@ use borrow.Author.Needs.{needs}
 use Rattle.numbers.specs.Descriptor.{kindOf}
 use Rattle.numbers.proofs.Table.{entry}
 use Rattle.framing.specs.Answers.{valueCode, badFloat, shortTimestamp}
-use Rattle.framing.specs.Telling.{toldLength, lengthTold, tellingOf}
+use Rattle.framing.specs.Telling.{toldLength, tellsLength, tellingOf}
 use Rattle.framing.proofs.binary_buffer.telling.Statement.{statement}
 use Rattle.framing.proofs.binary_buffer.telling.Tie as tie
 
@@ -15,7 +15,7 @@ array-read-result : tie.Need-array-read-result
 array-read-result c = search needs
 
 returns : tie.Need-returns
-unfolding tellingOf lengthTold kindOf valueCode badFloat shortTimestamp toldLength
+unfolding tellingOf tellsLength kindOf valueCode badFloat shortTimestamp toldLength
 returns c = rw (entry tellingOf, c .pre)
 
 pub telling-spec : {M : Type 1} → statement M

@@ -6,9 +6,9 @@ use mathlib.Core.Path.{_≡_, _∙_, sym, ap}
 use mathlib.Core.Bool.{true}
 use Rattle.numbers.specs.Outcome.{gives}
 use Rattle.numbers.proofs.Outcomes.{then-by}
-use Rattle.framing.specs.Answers.{Sized, lengthAt, lengthTests, valueLength}
+use Rattle.framing.specs.Answers.{lengthAt, lengthTests, valueLength}
 use Rattle.framing.specs.Read.{lengthRead}
-use Rattle.framing.specs.Telling.{lengthTold}
+use Rattle.framing.specs.Telling.{tellsLength}
 use Rattle.framing.proofs.Telling.{told-read}
 use Rattle.framing.proofs.binary_buffer.value_length.Statement.{statement}
 use Rattle.framing.proofs.binary_buffer.value_length.Tie as tie
@@ -16,8 +16,8 @@ use Rattle.framing.proofs.binary_buffer.value_length.Tie as tie
 add-after : tie.Need-add-after
 add-after c = search needs
 
-length-told-requires : tie.Need-length-told-requires
-length-told-requires c κs = search needs
+tells-length-requires : tie.Need-tells-length-requires
+tells-length-requires c κs = search needs
 
 told-length-requires : tie.Need-told-length-requires
 told-length-requires c κs = search needs
@@ -26,7 +26,7 @@ returns : tie.Need-returns
 returns c =
     let q = c .before .before in
     let a = q .before .before .args in
-    let h : lengthTold (a .descriptor .«type_code») (a .descriptor .«length_code») ≡ true = sym (q .length-told .ensures) ∙ c .before .if1 .taken in
+    let h : tellsLength (a .descriptor .«type_code») (a .descriptor .«length_code») ≡ true = sym (q .tells-length .ensures) ∙ c .before .if1 .taken in
     ap (λ n. gives (record { body = a .at + 1; size = n })) (c .told-length .ensures) ∙ sym (told-read (a .s .now) (a .at) (a .end) (a .descriptor) h)
 
 value-code-requires : tie.Need-value-code-requires
@@ -64,7 +64,7 @@ value-length-spec =
     tie.close
     (tie.spec
     add-after
-    length-told-requires
+    tells-length-requires
     told-length-requires
     returns
     value-code-requires

@@ -24,18 +24,18 @@ Inv-loop s ends₀ fields₀ most place₀ count₀ ends fields place count =
 abbrev μ-loop : tie.MeasureT-loop
 μ-loop s ends₀ fields₀ most place₀ count₀ ends fields place count = most - count
 
--- the loop's place, from the glance and from the call behind it
-abbrev met : tie.After-glance Inv-loop μ-loop → tie.In-loop Inv-loop μ-loop
+-- the loop's place, from the value read in place and from the call behind it
+abbrev met : tie.After-value-in-place Inv-loop μ-loop → tie.In-loop Inv-loop μ-loop
 met g = g .before .before .before
 
 abbrev looked : tie.After-look Inv-loop μ-loop → tie.In-loop Inv-loop μ-loop
 looked k = met (k .before .before .before .before .before)
 
--- what the glance told of a value
-told : (g : tie.After-glance Inv-loop μ-loop) (v : EncodedValue) → g .glance .result ≡ Value v → let l = met g .before .loop in ToldIn (met g .before .before .before .args .s .now) (stateOf (l .ends) (l .fields) (l .place)) (Value v)
+-- what was told of a value
+told : (g : tie.After-value-in-place Inv-loop μ-loop) (v : EncodedValue) → g .value-in-place .result ≡ Value v → let l = met g .before .loop in ToldIn (met g .before .before .before .args .s .now) (stateOf (l .ends) (l .fields) (l .place)) (Value v)
 told g v h =
     let l = met g .before .loop in
-    subst (ToldIn (met g .before .before .before .args .s .now) (stateOf (l .ends) (l .fields) (l .place))) h (g .glance .ensures)
+    subst (ToldIn (met g .before .before .before .args .s .now) (stateOf (l .ends) (l .fields) (l .place))) h (g .value-in-place .ensures)
 
 -- whether the answer of a call in the loop is the last
 lasts : (c : tie.After-is-last Inv-loop μ-loop) → let t = looked (c .before) in let l = t .before .loop in isLast (visitOf (t .before .before .before .args .s .now) (stateOf (l .ends) (l .fields) (l .place)) .answer) ≡ c .is-last .result
@@ -48,8 +48,8 @@ loop-holds c =
     let f : itemsIn (calls (a .most - 0) (a .s .now) (stateOf (a .ends .now) (a .fields .now) (a .from))) ≡ itemsIn (calls (a .most) (a .s .now) (stateOf (a .ends .now) (a .fields .now) (a .from))) = ap (λ (k : ℕ). itemsIn (calls k (a .s .now) (stateOf (a .ends .now) (a .fields .now) (a .from)))) e in
     (omega arith, omega (arith, f))
 
-glance-requires : tie.Need-glance-requires Inv-loop μ-loop
-glance-requires c κs = search needs
+value-in-place-requires : tie.Need-value-in-place-requires Inv-loop μ-loop
+value-in-place-requires c κs = search needs
 
 enum-known-value : tie.Need-enum-known-value Inv-loop μ-loop
 enum-known-value c = search needs
@@ -138,7 +138,7 @@ count-from-spec =
     Inv-loop
     μ-loop
     loop-holds
-    glance-requires
+    value-in-place-requires
     enum-known-value
     pass-value-requires
     add-count

@@ -1,26 +1,25 @@
--- `length_told` meets its contract: the entry of a type code has the bit of a length code where the two tell a length.
+-- `tells_length` meets its contract: the entry of a type code has the bit of a length code where the two tell a length.
 -- Assumes nothing.
 use borrow.Author.Needs.{needs}
-use Prim.Native.Nat.{_<_}
 use native.Mathlib.Omega.{arith}
 use borrow.Author.Tests.{lt-ltb}
 use lib.Dec.{ltb}
 use Rattle.numbers.specs.Descriptor.{kindOf}
 use Rattle.numbers.proofs.Outcomes.{by-case}
-use Rattle.framing.specs.Telling.{lengthTold}
+use Rattle.framing.specs.Telling.{tellsLength}
 use Rattle.framing.proofs.Telling.{bit-told}
-use Rattle.framing.proofs.binary_buffer.length_told.Statement.{statement}
-use Rattle.framing.proofs.binary_buffer.length_told.Tie as tie
+use Rattle.framing.proofs.binary_buffer.tells_length.Statement.{statement}
+use Rattle.framing.proofs.binary_buffer.tells_length.Tie as tie
 
 -- a type code above 15 is reserved
 returns : tie.Need-returns
-unfolding lengthTold kindOf
+unfolding tellsLength kindOf
 returns c =
     let a = c .before .args in
     rw (lt-ltb 14 (a .type-code) (omega (arith, c .if1 .taken))) (by-case (ltb 15 (a .length-code)) (λ h. rw h) (λ h. rw h))
 
 returns-2 : tie.Need-returns-2
-unfolding lengthTold
+unfolding tellsLength
 returns-2 c = rw (lt-ltb _ _ (c .if2 .taken))
 
 telling-requires : tie.Need-telling-requires
@@ -35,5 +34,5 @@ returns-3 c =
     rw (c .telling .ensures)
     (bit-told (a .type-code) (a .length-code) (omega (arith, c .before .before .if1 .left)) (omega (arith, c .before .if2 .left)))
 
-pub length-told-spec : {M : Type 1} → statement M
-length-told-spec = tie.close (tie.spec returns returns-2 telling-requires shr-result returns-3)
+pub tells-length-spec : {M : Type 1} → statement M
+tells-length-spec = tie.close (tie.spec returns returns-2 telling-requires shr-result returns-3)

@@ -1,9 +1,9 @@
--- `glance` meets its contract: a value read in place is what the walk meets there.
+-- `value_in_place` meets its contract: a value read in place is what the walk meets there.
 -- Assumes nothing.
 use borrow.Author.Needs.{needs}
 use native.Mathlib.Omega.{arith}
 use borrow.Author.Tests.{not-false}
-use mathlib.Core.Path.{_≡_, _∙_, sym, ap, subst}
+use mathlib.Core.Path.{_≡_, _∙_, sym, subst}
 use mathlib.Core.Bool.{Bool, false}
 use Prim.Native.Nat.{_≤_}
 use lib.ListN.{length, getD}
@@ -13,9 +13,9 @@ use Rattle.framing.specs.declared.encoded_value.EncodedValue.{EncodedValue}
 use Rattle.maps.specs.Private.{rulesBy, stateOf}
 use Rattle.maps.specs.InPlace.{plainSpans, Told, ToldName}
 use Rattle.maps.specs.declared.Named.the-variants.{At}
-use Rattle.maps.proofs.InPlace.{Begins, begins, isFields, fields-by, plain-answer, glanced}
-use Rattle.maps.proofs.walk.glance.Statement.{statement}
-use Rattle.maps.proofs.walk.glance.Tie as tie
+use Rattle.maps.proofs.InPlace.{Begins, begins, isFields, fields-by, plain-answer, met-in-place}
+use Rattle.maps.proofs.walk.value_in_place.Statement.{statement}
+use Rattle.maps.proofs.walk.value_in_place.Tie as tie
 
 -- past the tests the part is one of the slice
 high : (c : tie.Else4) → let a = c .before .before .before .before .before .before .args in getD (a .ends .now) (a .place .depth) 0 ≤ length (a .s .now)
@@ -105,7 +105,7 @@ returns-6 c =
     let named : ToldName (isFields rules) s (p .at) end (At id next) = subst (λ (f : Bool). ToldName f s (p .at) end (At id next)) among (subst (ToldName (n .before .among-fields .result) s (p .at) end) (t .before .before .before .next .given .1) (n .name-at .ensures)) in
     let framed : readFrame s next end ≡ gives (valued (plainSpans s next body final)) = subst (Told s next end) (b .body .given .1) (b .before .before .plain-at .ensures) in
     let answer = plain-answer s (p .at) end (k .if4 .left) (high k) rules id next body final named (begun t) framed in
-    glanced s (stateOf (a .ends .now) (a .fields .now) p) (isFields rules) (p .at) id v (one .if1 .left) (k .before .before .before .if2 .left) answer
+    met-in-place s (stateOf (a .ends .now) (a .fields .now) p) (isFields rules) (p .at) id v (one .if1 .left) (k .before .before .before .if2 .left) answer
 
 returns-7 : tie.Need-returns-7
 returns-7 c = search needs
@@ -113,8 +113,8 @@ returns-7 c = search needs
 returns-8 : tie.Need-returns-8
 returns-8 c = search needs
 
-pub glance-spec : {M : Type 1} → statement M
-glance-spec =
+pub value-in-place-spec : {M : Type 1} → statement M
+value-in-place-spec =
     tie.close
     (tie.spec
     returns
