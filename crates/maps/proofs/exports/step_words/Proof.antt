@@ -38,7 +38,7 @@ returns c = search needs
 returns-2 : tie.Need-returns-2
 returns-2 c =
     let a = c .before .before .before .before .args in
-    let e = step-ended (a .map .now) (a .start) (a .end) (a .at) (a .kind) (part (c .before)) (c .if2 .taken) in
+    let e = step-ended (a .map .now) (a .start) (a .end) (a .at) (a .kind) (part (c .before)) (omega (arith, c .if2 .taken)) in
     (ap words (sym e), ap leftOf (sym e))
 
 name-at-requires : tie.Need-name-at-requires
