@@ -10,21 +10,22 @@ use mathlib.Core.Logic.{_⊎_, inl, inr, ⊎-elim}
 use mathlib.Core.List.{List}
 use lib.ListN.{length, getD}
 use lib.Dec.{ltb, eqb}
-use Rattle.numbers.specs.Outcome.{Outcome, gives, refuseIf, andThen, pick, part}
-use Rattle.numbers.specs.Format.{varUIntOf}
-use Rattle.numbers.specs.Answers.{Unsigned, unsigned, varUInt}
-use Rattle.numbers.specs.Meaning.{NumberAt}
+use Rattle.numbers.specs.Outcome.{Outcome, gives, refuseIf, andThen, pick}
+use Rattle.numbers.specs.Bytes.{part}
+use Rattle.numbers.specs.Format.{varUIntOf, NumberAt}
+use Rattle.numbers.specs.Answers.{mostBytes, Unsigned, unsigned, varUInt}
 use Rattle.numbers.specs.Descriptor.{descriptorOf, kindOf}
 use Rattle.numbers.specs.declared.type_descriptor.TypeDescriptor.{TypeDescriptor}
 use Rattle.numbers.proofs.Outcomes.{by-test, by-case, within-part}
 use Rattle.numbers.proofs.Meaning.{var-uint-reads}
-use Rattle.framing.specs.Answers.{begun, Sized, sizedBy, lengthAt, valueCode, badFloat, shortTimestamp, emptyOrdered, lengthTests, valueLength, Spans, fitting, plainValue, Padding, padded, padAt, Wrapping, wrapperTests, annotationsAt, wrapperAt, innerValue, wrapped, unwrapped, annotatedValue, valueAt, readValue, padOrNone, readPad, frameAt, readFrame, padding, valued, asPadding, asValued, isPad, isWrapper, noValue, mostAnnotations}
+use Rattle.framing.specs.Answers.{begun, Sized, sizedBy, lengthAt, valueCode, badFloat, shortTimestamp, emptyOrdered, lengthTests, valueLength, fitting, plainValue, padded, padAt, Wrapping, wrapperTests, annotationsAt, wrapperAt, innerValue, wrapped, unwrapped, annotatedValue, valueAt, readValue, padOrNone, readPad, frameAt, readFrame, padding, valued, asPadding, asValued, isPad, isWrapper, noValue, mostAnnotations}
+use Rattle.framing.specs.Spans.{Spans, Padding}
 use Rattle.framing.specs.Format.{typeAt, codeAt, CodeLength, short, long, ValueLength, none, null, coded, ordered, Legal, TypedValue, NopPadding, AnnotationWrapper, ValueBytes, plain, annotated}
 use Rattle.framing.specs.Meaning.{Within, ValuesRead, PadsRead}
 use Rattle.framing.proofs.Nibbles.{IsValue, is-value, IsWrapper, is-wrapper, is-pad}
 use Rattle.framing.proofs.Told.{here}
 
-code-reads : (s : List ℕ) (at end b code n : ℕ) → CodeLength s at end b code n → b ≤ at + 9 → lengthAt s at end code ≡ gives (record { body = b; size = n })
+code-reads : (s : List ℕ) (at end b code n : ℕ) → CodeLength s at end b code n → b ≤ at + mostBytes → lengthAt s at end code ≡ gives (record { body = b; size = n })
 unfolding lengthAt
 code-reads s at end b code n (short h e) _ = rw (ne-eqb code 15 (omega arith), ne-eqb code 14 (omega arith), e)
 code-reads s at end b code n (long f) l = rw (var-uint-reads s at end b f l)
@@ -38,7 +39,7 @@ same-code type code two never =
     (λ t. by-test (λ c. c ≡ code) (eqb code 1) (λ o. absurd (never (eqb-true type 13 t) (eqb-true code 1 o))) (λ _. refl))
     (λ _. refl))
 
-field-reads : (s : List ℕ) (at end b type code n : ℕ) → ValueLength s at end b type code n → b ≤ at + 9 → lengthAt s at end (valueCode type code) ≡ gives (record { body = b; size = n })
+field-reads : (s : List ℕ) (at end b type code n : ℕ) → ValueLength s at end b type code n → b ≤ at + mostBytes → lengthAt s at end (valueCode type code) ≡ gives (record { body = b; size = n })
 unfolding lengthAt valueCode
 field-reads s at end b type code n (none h e) _ = rw (lt-ltb type 2 h, e)
 field-reads s at end b type code n (null two e) _ = rw (same-code type 15 two (λ _ q. absurd (omega arith)), e)
@@ -81,7 +82,7 @@ pub begun-here : (s : List ℕ) (at end : ℕ) → at < end → end ≤ length s
 unfolding begun
 begun-here s at end h k = within-part s at end (omega arith) k ∙ rw (ne-eqb at end (omega arith))
 
-plain-reads : (s : List ℕ) (at end : ℕ) (v : Spans) → TypedValue s at end v → v .body ≤ at + 1 + 9 → plainValue s at end (here s at) ≡ gives v
+plain-reads : (s : List ℕ) (at end : ℕ) (v : Spans) → TypedValue s at end v → v .body ≤ at + 1 + mostBytes → plainValue s at end (here s at) ≡ gives v
 unfolding plainValue valueLength lengthTests fitting descriptorOf
 plain-reads s at end v t l =
     let n : ℕ = v .end - v .body in
@@ -106,7 +107,7 @@ wrapper-reads s at end v w l =
     (code-reads s (at + 1) end (w .after) (codeAt s at) (w .combined) (w .field) (l .0), var-uint-reads s (w .after) end (v .annotations) (w .count) (l .1), ne-eqb n 0 (omega arith), le-ltb (w .combined) (v .annotations - w .after + n) (omega arith), ne-eqb (w .combined) (v .annotations - w .after + n) (omega arith), le-ltb (end - v .annotations) n (omega arith), le-ltb mostAnnotations n (omega (arith, l .2)))
     (ap gives (wrapping-are (v .annotations) _ _ _ _ (sym d) (omega arith)))
 
-inner-reads : (s : List ℕ) (at end : ℕ) (v : Spans) → TypedValue s at end v → v .body ≤ at + 1 + 9 → andThen (begun s at end) (innerValue s at end) ≡ gives v
+inner-reads : (s : List ℕ) (at end : ℕ) (v : Spans) → TypedValue s at end v → v .body ≤ at + 1 + mostBytes → andThen (begun s at end) (innerValue s at end) ≡ gives v
 unfolding innerValue descriptorOf
 inner-reads s at end v t l =
     let k : IsValue (kindOf (typeAt s at) (codeAt s at)) = is-value (t .type) in

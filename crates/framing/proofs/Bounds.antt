@@ -14,7 +14,8 @@ use Rattle.numbers.specs.Descriptor.{descriptorOf}
 use Rattle.numbers.specs.declared.type_descriptor.TypeDescriptor.{TypeDescriptor}
 use Rattle.numbers.proofs.Outcomes.{Each, given, each-refuse, each-pick, each-within, each-then, each-of}
 use Rattle.numbers.proofs.Meaning.{Bounded, var-uint-bounded}
-use Rattle.framing.specs.Answers.{begun, Sized, sizedBy, lengthAt, lengthTests, valueLength, Spans, fitting, plainValue, Padding, padded, padAt, Wrapping, wrapperTests, annotationsAt, wrapperAt, innerValue, wrapped, unwrapped, annotatedValue, valueAt, badFloat, shortTimestamp, emptyOrdered, noValue, isPad, isWrapper, mostAnnotations, readValue, Frame, padding, valued, frameAt, readFrame}
+use Rattle.framing.specs.Answers.{begun, Sized, sizedBy, lengthAt, lengthTests, valueLength, fitting, plainValue, padded, padAt, Wrapping, wrapperTests, annotationsAt, wrapperAt, innerValue, wrapped, unwrapped, annotatedValue, valueAt, badFloat, shortTimestamp, emptyOrdered, noValue, isPad, isWrapper, mostAnnotations, readValue, Frame, padding, valued, frameAt, readFrame}
+use Rattle.framing.specs.Spans.{Spans, Padding}
 
 -- a descriptor is one of the part
 pub record BegunAt (s : List ℕ) (at end : ℕ) (d : TypeDescriptor) : Type 0 where
@@ -42,7 +43,7 @@ length-each s at end code h =
     (λ _. each-then (var-uint-bounded s at end) (λ u b. given (record { low = omega (arith, b .begins); high = b .ends; near = b .short })))
     (λ _. given (record { low = omega arith; high = h; near = omega arith })))
 
-tests-each : {P : Sized → Type 0} (at type code : ℕ) (l : Sized) → P l → Each P (lengthTests at type code l)
+pub tests-each : {P : Sized → Type 0} (at type code : ℕ) (l : Sized) → P l → Each P (lengthTests at type code l)
 unfolding lengthTests
 tests-each at type code l p =
     each-refuse (badFloat type code) 30 at (λ _.

@@ -6,3 +6,4 @@ pub mod Looked
 pub mod Refusing
 pub mod Opening
 pub mod Telling
+pub mod ShortValues

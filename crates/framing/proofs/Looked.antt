@@ -9,17 +9,18 @@ use mathlib.Core.Bool.{Bool, true, false}
 use mathlib.Core.List.{List}
 use lib.ListN.{length, getD}
 use lib.Dec.{ltb, eqb}
-use Rattle.numbers.specs.Format.{VarBytes, varUIntOf}
-use Rattle.numbers.specs.Outcome.{Outcome, gives, refuses, refuseIf, andThen, pick, part, Same}
+use Rattle.numbers.specs.Format.{VarBytes, varUIntOf, NumberAt}
+use Rattle.numbers.specs.Outcome.{Outcome, gives, refuses, refuseIf, andThen, pick}
+use Rattle.numbers.specs.Bytes.{part, Same}
 use Rattle.numbers.specs.Answers.{Unsigned, varUInt, lookedTo}
-use Rattle.numbers.specs.Meaning.{NumberAt}
 use Rattle.numbers.specs.Descriptor.{descriptorOf}
 use Rattle.numbers.specs.declared.type_descriptor.TypeDescriptor.{TypeDescriptor}
 use Rattle.numbers.proofs.Outcomes.{Each, given, each-then, each-pick, each-if, refuse-same, pick-same, then-same}
 use Rattle.numbers.proofs.Parts.{part-same}
 use Rattle.numbers.proofs.Meaning.{Bounded, var-uint-bounded}
 use Rattle.numbers.proofs.Frames.{within-same, var-uint-same, looked-high}
-use Rattle.framing.specs.Answers.{begun, Sized, sizedBy, lengthAt, valueCode, lengthTests, valueLength, Spans, fitting, plainValue, Padding, padded, padAt, Wrapping, wrapperTests, annotationsAt, wrapperAt, innerValue, wrapped, unwrapped, annotatedValue, valueAt, readValue, padOrNone, readPad, frameAt, readFrame, Frame, padding, valued, asPadding, asValued, isPad, isWrapper, noValue, Annotated, finished, identified, readAnnotation}
+use Rattle.framing.specs.Answers.{begun, Sized, sizedBy, lengthAt, valueCode, lengthTests, valueLength, fitting, plainValue, padded, padAt, Wrapping, wrapperTests, annotationsAt, wrapperAt, innerValue, wrapped, unwrapped, annotatedValue, valueAt, readValue, padOrNone, readPad, frameAt, readFrame, Frame, padding, valued, asPadding, asValued, isPad, isWrapper, noValue, Annotated, finished, identified, readAnnotation}
+use Rattle.framing.specs.Spans.{Spans, Padding}
 use Rattle.framing.specs.Format.{typeAt, codeAt, CodeLength, short, long, ValueLength, none, null, coded, ordered, ValueType, Legal, TypedValue, NopPadding, AnnotationWrapper, ValueBytes, plain, annotated}
 use Rattle.framing.specs.Meaning.{Within}
 use Rattle.framing.proofs.Bounds.{BegunAt, begun-each, SizedAt, length-each, WrapperAt, wrapper-each}

@@ -88,6 +88,27 @@ pad-byte b h =
     (λ _ _. record { wrapper = refl; value = refl })
     (λ t _. absurd (omega arith))
 
+-- from 0F to DF a byte begins a value or a null, and from E0 on none
+pub value-byte : (b : ℕ) → 15 ≤ b → b < 224 → noValue (kindOf (b / 16) (b % 16)) ≡ false
+value-byte b h k =
+    by-kind (b / 16) (b % 16) (λ x. noValue x ≡ false)
+    (λ t. absurd (omega arith))
+    (λ t _. absurd (omega arith))
+    (λ t _. absurd (omega arith))
+    (λ _ _. refl)
+    (λ t n. let e : b % 16 ≡ 15 = omega arith in absurd (n e))
+    (λ _ _. refl)
+
+pub no-value-byte : (b : ℕ) → 224 ≤ b → noValue (kindOf (b / 16) (b % 16)) ≡ true
+no-value-byte b h =
+    by-kind (b / 16) (b % 16) (λ x. noValue x ≡ true)
+    (λ _. refl)
+    (λ _ _. refl)
+    (λ _ _. refl)
+    (λ t _. absurd (omega arith))
+    (λ t _. absurd (omega arith))
+    (λ _ t. absurd (omega arith))
+
 pub no-pad-byte : (b : ℕ) → 15 ≤ b → isPad (kindOf (b / 16) (b % 16)) ≡ false
 no-pad-byte b h =
     by-kind (b / 16) (b % 16) (λ k. isPad k ≡ false)

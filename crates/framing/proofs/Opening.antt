@@ -11,7 +11,7 @@ use Rattle.numbers.specs.Outcome.{Outcome, gives, refuseIf, andThen}
 use Rattle.numbers.specs.declared.type_descriptor.TypeDescriptor.{TypeDescriptor}
 use Rattle.numbers.proofs.Outcomes.{by-case, refuse-same, refuse-first, Each, given, each-refuse, each-pick, each-then, then-same, then-then, then-like}
 use Rattle.framing.specs.Answers.{begun, Sized, valueLength, fitting, plainValue, Wrapping, wrapperAt, innerValue, wrapped, unwrapped, annotatedValue, valueAt, isPad, isWrapper, noValue}
-use Rattle.framing.specs.Opened.{Opening, innerTests, innerAt, openedWrapper, openedAt, differsFrom, closed, openedValue}
+use Rattle.framing.specs.Private.Opened.{Opening, innerTests, innerAt, openedWrapper, openedAt, differsFrom, closed, openedValue}
 use Rattle.framing.proofs.Bounds.{begun-each, wrapper-each}
 
 -- the value stands in the part

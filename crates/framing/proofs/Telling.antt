@@ -1,26 +1,20 @@
--- What a descriptor tells of its value's length: the table of length codes holds the rule, by one computed test; a length that is told is what the reading of
--- a length gives; and so most values are framed by their descriptor, or by it and the VarUInt behind it.
+-- What a descriptor tells of its value's length: the table of length codes holds the rule, by one computed test; and a length that is told is what the reading
+-- of a length gives.
 -- Assumes nothing.
-use Prim.Native.Nat.{ℕ, zero, suc, _+_, _-_, _/_, _%_, _^_, _≤_, _<_}
+use Prim.Native.Nat.{ℕ, zero, suc, _+_, _-_, _/_, _%_, _^_, _<_}
 use native.Mathlib.Omega.{arith}
-use borrow.Author.Tests.{le-ltb, ne-eqb, eqb-true, eqb-false, not-true}
+use borrow.Author.Tests.{eqb-true, eqb-false, not-true, lt-ltb, ltb-true, ne-eqb}
 use mathlib.Core.Path.{_≡_, refl, sym, subst}
 use mathlib.Core.Bool.{Bool, true, false, not, true≢false}
 use mathlib.Core.List.{List}
-use lib.ListN.{length, getD}
 use lib.Dec.{T, ltb, eqb}
 use Rattle.numbers.specs.Outcome.{gives, pick}
-use Rattle.numbers.specs.Answers.{Unsigned, varUInt}
-use Rattle.numbers.specs.Descriptor.{kindOf, descriptorOf}
+use Rattle.numbers.specs.Descriptor.{kindOf}
 use Rattle.numbers.specs.declared.type_descriptor.TypeDescriptor.{TypeDescriptor}
 use Rattle.numbers.proofs.Outcomes.{by-test, by-case}
 use Rattle.numbers.proofs.Table.{first-test, second-test}
-use Rattle.framing.specs.Answers.{noValue, Sized, lengthAt, valueCode, badFloat, shortTimestamp, emptyOrdered, lengthTests, valueLength, fitting, plainValue, valueAt, frameAt, readFrame, valued}
-use Rattle.framing.specs.Format.{typed}
-use Rattle.framing.specs.Telling.{toldLength, tellsLength, tellingOf}
-use Rattle.framing.proofs.Nibbles.{IsValue, is-value, value-kind}
-use Rattle.framing.proofs.Told.{here}
-use Rattle.framing.proofs.Accepts.{begun-here}
+use Rattle.framing.specs.Answers.{noValue, lengthAt, valueCode, badFloat, shortTimestamp, emptyOrdered, lengthTests, valueLength}
+use Rattle.framing.specs.Private.Telling.{toldLength, tellsLength, tellingOf, isOrdered, readsLength}
 
 -- ---- the table
 
@@ -71,7 +65,7 @@ told-means type code =
     record { value = v; code-is = n; float = f; timestamp = not-true _ e }))))
 
 module _ (s : List ℕ) (at end type code : ℕ) where
-  sized : eqb (valueCode type code) 14 ≡ false → lengthAt s at end (valueCode type code) ≡ gives (record { body = at; size = toldLength type code })
+  pub sized : eqb (valueCode type code) 14 ≡ false → lengthAt s at end (valueCode type code) ≡ gives (record { body = at; size = toldLength type code })
   unfolding lengthAt valueCode toldLength
   sized =
       by-case (ltb type 2) (λ h. rw h (λ _. refl)) (λ h.
@@ -94,11 +88,6 @@ no-order type code n e =
     (λ o. rw (t, o)))
     (λ t. rw t)
 
--- a struct of code 14 is not ordered
-long-order : (type n : ℕ) → emptyOrdered type 14 n ≡ false
-unfolding emptyOrdered
-long-order type n = by-case (eqb type 13) (λ t. rw t) (λ t. rw t)
-
 pub told-read : (s : List ℕ) (at end : ℕ) (d : TypeDescriptor) → tellsLength (d .«type_code») (d .«length_code») ≡ true → valueLength s at end d ≡ gives (record { body = at + 1; size = toldLength (d .«type_code») (d .«length_code») })
 unfolding valueLength lengthTests
 told-read s at end d h =
@@ -108,31 +97,30 @@ told-read s at end d h =
     rw
     (sized s (at + 1) end type code (t .code-is), t .float, t .timestamp, no-order type code (toldLength type code) (t .code-is))
 
--- ---- what is framed by it
+-- ---- a VarUInt says the length
 
-module _ (s : List ℕ) (at end : ℕ) (l : at < end) (m : end ≤ length s) where
-  -- a value whose length is read and fits
-  pub sized-framed : (n : Sized) → noValue (kindOf (getD s at 0 / 16) (getD s at 0 % 16)) ≡ false → valueLength s at end (here s at) ≡ gives n → n .size ≤ end - n .body → readFrame s at end ≡ gives (valued (record { byte = getD s at 0; start = at; annotations = at; descriptor = at; body = n .body; end = n .body + n .size }))
-  unfolding readFrame frameAt valueAt plainValue fitting descriptorOf
-  sized-framed n v e f =
-      let k : IsValue (kindOf (getD s at 0 / 16) (getD s at 0 % 16)) = is-value (value-kind _ _ v) in
-      rw (begun-here s at end l m, k .pad, k .wrapper, v, e, le-ltb (end - n .body) (n .size) f)
+-- with length code 14, by type: a number has the bit of each type that reads one
+pub bit-reads : (type : ℕ) → type < 16 → eqb (0x3FEC / 2 ^ type % 2) 1 ≡ readsLength type 14
+unfolding readsLength valueCode badFloat
+bit-reads type t =
+    same-is _ _ (holds-at 16 (λ x. same (eqb (0x3FEC / 2 ^ x % 2) 1) (readsLength x 14)) tt type t)
 
-  pub told-framed : tellsLength (getD s at 0 / 16) (getD s at 0 % 16) ≡ true → toldLength (getD s at 0 / 16) (getD s at 0 % 16) ≤ end - (at + 1) → readFrame s at end ≡ gives (valued (record { byte = getD s at 0; start = at; annotations = at; descriptor = at; body = at + 1; end = at + 1 + toldLength (getD s at 0 / 16) (getD s at 0 % 16) }))
-  unfolding descriptorOf
-  told-framed h f =
-      sized-framed (record { body = at + 1; size = toldLength (getD s at 0 / 16) (getD s at 0 % 16) }) (told-means _ _ h .value) (told-read s at end (here s at) h) f
+-- and else in an ordered struct alone
+pub ordered-reads : (type code : ℕ) → eqb code 14 ≡ false → isOrdered type code ≡ readsLength type code
+unfolding isOrdered readsLength valueCode badFloat
+ordered-reads type code n =
+    by-case (ltb type 2)
+    (λ l.
+    let o : eqb type 13 ≡ false = ne-eqb type 13 (omega (arith, ltb-true type 2 l)) in
+    rw (l, o))
+    (λ l.
+    rw l
+    (by-case (eqb type 13)
+    (λ o. rw (o, eqb-true type 13 o) (by-case (eqb code 1) (λ e. rw e) (λ e. rw (e, n))))
+    (λ o. rw (o, n))))
 
-  -- a VarUInt says the length, and no test of it can fail
-  followed-read : (u : Unsigned) → 2 ≤ getD s at 0 / 16 → (getD s at 0 / 16 ≡ 4 → ⊥) → (getD s at 0 / 16 ≡ 6 → ⊥) → getD s at 0 % 16 ≡ 14 → varUInt s (at + 1) end ≡ gives u → valueLength s at end (here s at) ≡ gives (record { body = u .next; size = u .value })
-  unfolding valueLength lengthAt lengthTests valueCode badFloat shortTimestamp emptyOrdered descriptorOf
-  followed-read u two float stamp code e =
-      let f = ne-eqb (getD s at 0 / 16) 4 float in
-      let i = ne-eqb (getD s at 0 / 16) 6 stamp in
-      let o = long-order (getD s at 0 / 16) (u .value) in
-      rw (code, le-ltb (getD s at 0 / 16) 2 two)
-      (by-case (eqb (getD s at 0 / 16) 13) (λ t. rw (t, e, f, i, o)) (λ t. rw (t, e, f, i, o)))
-
-  pub followed-framed : (u : Unsigned) → 2 ≤ getD s at 0 / 16 → getD s at 0 / 16 ≤ 13 → (getD s at 0 / 16 ≡ 4 → ⊥) → (getD s at 0 / 16 ≡ 6 → ⊥) → getD s at 0 % 16 ≡ 14 → varUInt s (at + 1) end ≡ gives u → u .value ≤ end - u .next → readFrame s at end ≡ gives (valued (record { byte = getD s at 0; start = at; annotations = at; descriptor = at; body = u .next; end = u .next + u .value }))
-  followed-framed u two most float stamp code e f =
-      sized-framed (record { body = u .next; size = u .value }) (is-value (typed (omega arith) most) .value) (followed-read u two float stamp code e) f
+pub high-reads : (type code : ℕ) → 15 < type → readsLength type code ≡ false
+unfolding readsLength
+high-reads type code h =
+    let l : ltb 13 type ≡ true = lt-ltb 13 type (omega arith) in
+    by-case (eqb (valueCode type code) 14) (λ e. rw (e, l)) (λ e. rw e)

@@ -10,15 +10,16 @@ use mathlib.Core.Logic.{_⊎_, inl, inr}
 use mathlib.Core.List.{List}
 use lib.ListN.{length, getD}
 use lib.Dec.{ltb, eqb}
-use Rattle.numbers.specs.Outcome.{Outcome, gives, refuseIf, andThen, pick, part}
-use Rattle.numbers.specs.Format.{varUIntOf}
-use Rattle.numbers.specs.Meaning.{NumberAt}
+use Rattle.numbers.specs.Outcome.{Outcome, gives, refuseIf, andThen, pick}
+use Rattle.numbers.specs.Bytes.{part}
+use Rattle.numbers.specs.Format.{varUIntOf, NumberAt}
 use Rattle.numbers.specs.Answers.{Unsigned, unsigned, mostBytes, varUInt}
 use Rattle.numbers.specs.Descriptor.{descriptorOf, kindOf}
 use Rattle.numbers.specs.declared.type_descriptor.TypeDescriptor.{TypeDescriptor}
 use Rattle.numbers.proofs.Outcomes.{by-test, by-case, Each, given, each-refuse, each-pick, each-then, each-map, each-both, each-of}
 use Rattle.numbers.proofs.Meaning.{ReadAt, var-uint-each}
-use Rattle.framing.specs.Answers.{begun, Sized, sizedBy, lengthAt, valueCode, badFloat, shortTimestamp, emptyOrdered, lengthTests, valueLength, Spans, fitting, plainValue, Padding, padded, padAt, Wrapping, wrapperTests, annotationsAt, wrapperAt, innerValue, wrapped, unwrapped, annotatedValue, valueAt, readValue, padOrNone, readPad, isPad, isWrapper, noValue, mostAnnotations}
+use Rattle.framing.specs.Answers.{begun, Sized, sizedBy, lengthAt, valueCode, badFloat, shortTimestamp, emptyOrdered, lengthTests, valueLength, fitting, plainValue, padded, padAt, Wrapping, wrapperTests, annotationsAt, wrapperAt, innerValue, wrapped, unwrapped, annotatedValue, valueAt, readValue, padOrNone, readPad, isPad, isWrapper, noValue, mostAnnotations}
+use Rattle.framing.specs.Spans.{Spans, Padding}
 use Rattle.framing.specs.Format.{typeAt, codeAt, CodeLength, short, long, ValueLength, none, null, coded, ordered, Legal, TypedValue, NopPadding, AnnotationWrapper, ValueBytes, plain, annotated}
 use Rattle.framing.specs.Meaning.{Within, ValuesTold, PadsTold}
 use Rattle.framing.proofs.Bounds.{BegunAt, begun-each, SizedAt, length-each, plain-each, inner-begun-each}

@@ -6,12 +6,13 @@ use mathlib.Core.Bool.{Bool, true, false, not}
 use mathlib.Core.List.{List}
 use lib.ListN.{getD}
 use lib.Dec.{ltb, eqb}
-use Rattle.numbers.specs.Outcome.{Outcome, gives, refuses, pick, refuseIf, andThen, within}
+use Rattle.numbers.specs.Outcome.{Outcome, gives, pick, refuseIf, andThen, within}
 use Rattle.numbers.specs.Answers.{Unsigned, varUInt}
 use Rattle.numbers.specs.Descriptor.{descriptorOf}
 use Rattle.numbers.specs.declared.type_descriptor.Kind.{Kind}
 use Rattle.numbers.specs.declared.type_descriptor.Kind.the-variants.{Value, Null, Pad, Marker, Wrapper, Reserved}
 use Rattle.numbers.specs.declared.type_descriptor.TypeDescriptor.{TypeDescriptor}
+use Rattle.framing.specs.Spans.{Spans, Padding}
 
 -- An entry "tests 50", is refused with "1 at the part's end", and then looks at the descriptor that stands there.
 unfoldable pub begun : List ℕ → ℕ → ℕ → Outcome TypeDescriptor
@@ -86,16 +87,6 @@ valueLength s at end d =
     andThen (lengthAt s (at + 1) end (valueCode (d .«type_code») (d .«length_code»)))
     (lengthTests at (d .«type_code») (d .«length_code»))
 
--- a value's spans, as the record has them: its own descriptor byte, where the item starts, where its annotations start and its descriptor stands (which
--- is the annotations' end), where its body starts, and where it ends. Without annotations the first three are one place.
-pub record Spans : Type 0 where
-  pub byte : ℕ
-  pub start : ℕ
-  pub annotations : ℕ
-  pub descriptor : ℕ
-  pub body : ℕ
-  pub end : ℕ
-
 -- "then whether the value fits": 8 at its descriptor
 unfoldable pub fitting : ℕ → ℕ → ℕ → Sized → Outcome Spans
 fitting at end byte l =
@@ -106,11 +97,6 @@ fitting at end byte l =
 unfoldable pub plainValue : List ℕ → ℕ → ℕ → TypeDescriptor → Outcome Spans
 plainValue s at end d =
     refuseIf (noValue (d .kind)) 22 at (andThen (valueLength s at end d) (fitting at end (getD s at 0)))
-
--- a pad's body, and where it ends
-pub record Padding : Type 0 where
-  pub body : ℕ
-  pub end : ℕ
 
 -- "that many unread bytes": 6 after its length
 unfoldable pub padded : ℕ → Sized → Outcome Padding

@@ -6,10 +6,9 @@ use mathlib.Core.Path.{_≡_}
 use mathlib.Core.Logic.{_⊎_}
 use mathlib.Core.List.{List}
 use lib.ListN.{length, getD}
-use Rattle.numbers.specs.Format.{varUIntOf}
-use Rattle.numbers.specs.Outcome.{part}
-use Rattle.numbers.specs.Meaning.{NumberAt}
-use Rattle.framing.specs.Answers.{Spans, Padding}
+use Rattle.numbers.specs.Format.{varUIntOf, NumberAt}
+use Rattle.numbers.specs.Bytes.{part}
+use Rattle.framing.specs.Spans.{Spans, Padding}
 
 -- "Typed Value Formats": a descriptor's high four bits are the type code T, its low four the length code L
 abbrev pub typeAt : List ℕ → ℕ → ℕ

@@ -1,6 +1,7 @@
-pub mod Answers
+pub mod Spans
 pub mod Format
+pub mod Answers
 pub mod Meaning
+pub mod ShortValue
 pub mod Read
-pub mod Opened
-pub mod Telling
+pub mod Private

@@ -6,8 +6,9 @@ use mathlib.Core.Path.{_≡_}
 use mathlib.Core.List.{List}
 use Rattle.numbers.specs.Outcome.{gives}
 use Rattle.numbers.specs.Answers.{mostBytes}
-use Rattle.framing.specs.Answers.{Spans, Padding, Frame, padding, valued, mostAnnotations, readValue, readFrame, readPad}
-use Rattle.framing.specs.Format.{TypedValue, NopPadding, AnnotationWrapper, ValueBytes, plain, annotated}
+use Rattle.framing.specs.Spans.{Spans, Padding}
+use Rattle.framing.specs.Answers.{padding, valued, mostAnnotations, readValue, readFrame, readPad}
+use Rattle.framing.specs.Format.{NopPadding, ValueBytes, plain, annotated}
 
 -- the limits: a length field of at most nine bytes, and at most 255 bytes of annotations
 abbrev pub Within : {s : List ℕ} {at end : ℕ} {v : Spans} → ValueBytes s at end v → Type 0

@@ -1,11 +1,11 @@
 -- What each case of a framing's enum says in the scope paper's terms: its spans, or its refusal's number and position.
 -- Assumes nothing.
-use Rattle.numbers.specs.Outcome.{Outcome, gives, refuses}
+use Prim.Native.Nat.{ℕ}
+use Rattle.numbers.specs.Outcome.{Outcome, gives}
 use Rattle.numbers.specs.Read.{refusalRead}
-use Rattle.framing.specs.Answers.{Sized, Spans, Padding, Wrapping, Frame, padding, valued, Annotated, ident, finished}
-use Rattle.numbers.specs.declared.type_descriptor.TypeDescriptor.{TypeDescriptor}
-use Rattle.framing.specs.declared.binary_buffer.Begun.{Begun}
-use Rattle.framing.specs.declared.binary_buffer.Begun.the-variants.{At, Refused as BegunRefused}
+use Rattle.framing.specs.Answers.{Sized, Wrapping, Frame, padding, valued, Annotated, ident, finished}
+use Rattle.framing.specs.Spans.{Spans, Padding}
+use Rattle.framing.specs.ShortValue.{ShortValue, shortValue, noShortValue, bareSpans}
 use Rattle.framing.specs.declared.encoded_value.EncodedValue.{EncodedValue}
 use Rattle.framing.specs.declared.encoded_value.Length.{Length}
 use Rattle.framing.specs.declared.encoded_value.Length.the-variants.{Known, Refused as LengthRefused}
@@ -17,12 +17,10 @@ use Rattle.framing.specs.declared.encoded_value.Framed.{Framed}
 use Rattle.framing.specs.declared.encoded_value.Framed.the-variants.{Value, Refused as FramedRefused}
 use Rattle.framing.specs.declared.encoded_value.Frame.{Frame as FrameEnum}
 use Rattle.framing.specs.declared.encoded_value.Frame.the-variants.{Pad as FramePad, Value as FrameValue, Refused as FrameRefused}
+use Rattle.framing.specs.declared.encoded_value.ShortValue.{ShortValue as ShortValueEnum}
+use Rattle.framing.specs.declared.encoded_value.ShortValue.the-variants.{Value as ShortValueValue, Other as ShortValueOther}
 use Rattle.framing.specs.declared.annotations_iterator.Annotation.{Annotation}
 use Rattle.framing.specs.declared.annotations_iterator.Annotation.the-variants.{Id, End, Refused as AnnotationRefused}
-
-abbrev pub begunRead : Begun → Outcome TypeDescriptor
-begunRead (At d) = gives d
-begunRead (BegunRefused e) = refusalRead e
 
 abbrev pub spansOf : EncodedValue → Spans
 spansOf v =
@@ -55,6 +53,11 @@ abbrev pub frameRead : FrameEnum → Outcome Frame
 frameRead (FramePad b e) = gives (padding (record { body = b; end = e }))
 frameRead (FrameValue v) = gives (valued (spansOf v))
 frameRead (FrameRefused e) = refusalRead e
+
+-- of the value at `at` with this descriptor byte
+abbrev pub shortValueRead : ℕ → ℕ → ShortValueEnum → ShortValue
+shortValueRead byte at (ShortValueValue b e) = shortValue (bareSpans byte at b e)
+shortValueRead byte at ShortValueOther = noShortValue
 
 abbrev pub annotationRead : Annotation → Outcome Annotated
 annotationRead (Id i n) = gives (ident i n)

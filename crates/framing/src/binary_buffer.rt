@@ -2,65 +2,49 @@
 //
 // Each function reads the part at..end of `s`, whose first byte is the descriptor.
 ghost use mathlib.Core.Path.{_≡_};
-ghost use Prim.Native.Nat.{_+_, _≤_, _<_, _^_};
-ghost use lib.ListN.{length};
-ghost use Rattle.framing.specs.Answers.{begun, isPad, isWrapper, noValue, lengthAt, valueCode, badFloat, shortTimestamp, emptyOrdered, lengthTests, valueLength, padAt, wrapperTests, wrapperAt, valueAt, frameAt, readValue, readFrame, readValueLength, readPad, readWrapper};
-ghost use Rattle.framing.specs.Opened.{openedRead, innerAt, openedWrapper, openedAt, differsFrom, closed, openedValue};
-ghost use Rattle.framing.specs.Telling.{tellsLength, toldLength, tellingOf};
-ghost use Rattle.framing.specs.Read.{begunRead, lengthRead, padRead, wrapperRead, framedRead, frameRead};
+ghost use Prim.Native.Nat.{ℕ, _+_, _≤_, _<_};
+ghost use lib.ListN.{length, getD};
+ghost use Rattle.numbers.specs.Short.{shortBytes};
+ghost use Rattle.framing.specs.Answers.{begun, isPad, isWrapper, noValue, fitting, padAt, valueAt, frameAt, readValue, readFrame, readValueLength, readPad, readWrapper};
+ghost use Rattle.framing.specs.ShortValue.{bareSpans, shortValueOf, beginsValue};
+ghost use Rattle.framing.specs.Read.{lengthRead, padRead, wrapperRead, framedRead, frameRead, spansOf, shortValueRead};
+ghost use Rattle.framing.specs.Private.Begun.{begunRead};
+ghost use Rattle.framing.specs.Private.Opened.{differsFrom, closed, openedValue};
+use crate::annotations_wrapper::Opened;
+use crate::annotations_wrapper::open_value;
+use crate::annotations_wrapper::read_wrapper;
 use crate::encoded_value::AnnotationsWrapper;
 use crate::encoded_value::EncodedValue;
 use crate::encoded_value::Frame;
 use crate::encoded_value::Framed;
 use crate::encoded_value::Length;
 use crate::encoded_value::NopPad;
-use numbers::binary_buffer::next_var_uint;
+use crate::encoded_value::ShortValue;
+use crate::encoded_value::read_length;
+use crate::encoded_value::reads_length;
+use crate::encoded_value::tells_length;
+use crate::encoded_value::told_length;
+use crate::encoded_value::too_short;
+use crate::encoded_value::value_length;
 use numbers::binary_buffer::outside;
-use numbers::refusal::ANNOTATIONS_CUT;
-use numbers::refusal::ANNOTATIONS_TOO_LONG;
-use numbers::refusal::BAD_FLOAT_LENGTH;
-use numbers::refusal::EMPTY_ORDERED_STRUCT;
-use numbers::refusal::NO_ANNOTATIONS;
-use numbers::refusal::NO_ROOM_FOR_VALUE;
+use numbers::binary_buffer::short_var_uint;
 use numbers::refusal::NO_VALUE_LEFT;
 use numbers::refusal::NOT_A_VALUE;
 use numbers::refusal::OUTSIDE;
 use numbers::refusal::PAD_CUT;
-use numbers::refusal::PAD_IN_WRAPPER;
 use numbers::refusal::Refusal;
-use numbers::refusal::TIMESTAMP_TOO_SHORT;
-use numbers::refusal::TOO_MANY_ANNOTATIONS;
 use numbers::refusal::VALUE_CUT;
 use numbers::refusal::WRAPPED_LENGTH_DIFFERS;
-use numbers::refusal::WRAPPER_IN_WRAPPER;
 use numbers::type_descriptor::Kind;
 use numbers::type_descriptor::TypeDescriptor;
-use numbers::var_uint::VarUInt;
+use numbers::var_uint::ShortVarUInt;
 
-// The most bytes that a value's annotations may have.
-const MOST_ANNOTATIONS: usize = 255;
+// The first byte that begins a value and no pad, and the first that begins none again.
+const FIRST_VALUE: u8 = 0x0F;
 
-// For each type code, the length codes that tell a value's length by themselves: a bit for each code, the lowest for 0.
-const TELLING: [u16; 16] = [
-    0x8000,
-    0xFFFF,
-    0xBFFF,
-    0xBFFF,
-    0x8111,
-    0xBFFF,
-    0xBFFC,
-    0xBFFF,
-    0xBFFF,
-    0xBFFF,
-    0xBFFF,
-    0xBFFF,
-    0xBFFF,
-    0xBFFD,
-    0,
-    0,
-];
+const FIRST_WRAPPER: u8 = 0xE0;
 
-fn is_pad(kind: Kind) -> bool
+pub(crate) fn is_pad(kind: Kind) -> bool
     ensures { λ r. ⌜ r ≡ isPad kind ⌝ }
 {
     match kind {
@@ -73,7 +57,7 @@ fn is_pad(kind: Kind) -> bool
     }
 }
 
-fn is_wrapper(kind: Kind) -> bool
+pub(crate) fn is_wrapper(kind: Kind) -> bool
     ensures { λ r. ⌜ r ≡ isWrapper kind ⌝ }
 {
     match kind {
@@ -87,7 +71,7 @@ fn is_wrapper(kind: Kind) -> bool
 }
 
 // Whether a descriptor begins no value.
-fn no_value(kind: Kind) -> bool
+pub(crate) fn no_value(kind: Kind) -> bool
     ensures { λ r. ⌜ r ≡ noValue kind ⌝ }
 {
     match kind {
@@ -101,12 +85,12 @@ fn no_value(kind: Kind) -> bool
 }
 
 // Looks at the descriptor at `at`, where one can stand.
-enum Begun {
+pub(crate) enum Begun {
     At(TypeDescriptor),
     Refused(Refusal),
 }
 
-fn begin(s: &[u8], at: usize, end: usize) -> Begun
+pub(crate) fn begin(s: &[u8], at: usize, end: usize) -> Begun
     ensures { λ r. ⌜ begunRead r ≡ begun (now (s .entry)) at end ⌝ }
 {
     if outside(s, at, end) {
@@ -122,174 +106,6 @@ fn begin(s: &[u8], at: usize, end: usize) -> Begun
         });
     }
     Begun::At(TypeDescriptor::compared(s[at]))
-}
-
-// The length that a length code tells; its VarUInt, if it has one, is at `at`.
-fn read_length(s: &[u8], at: usize, end: usize, code: u8) -> Length
-    ensures { λ r. ⌜ lengthRead r ≡ lengthAt (now (s .entry)) at end code ⌝ }
-{
-    if code == 15 {
-        return Length::Known { body: at, size: 0 };
-    }
-    if code != 14 {
-        return Length::Known {
-            body: at,
-            size: code as usize,
-        };
-    }
-    match next_var_uint(s, at, end) {
-        VarUInt::Value { value, next } => Length::Known {
-            body: next,
-            size: value,
-        },
-        VarUInt::Refused(refusal) => Length::Refused(refusal),
-    }
-}
-
-fn wide(x: u8) -> usize
-    ensures { λ r. ⌜ r ≡ x ⌝ }
-{
-    x as usize
-}
-
-// The length codes of a type that tell a value's length.
-fn telling(type_code: u8) -> u16
-    requires { ⌜ «type_code» < 16 ⌝ }
-    ensures { λ r. ⌜ r ≡ tellingOf «type_code» ⌝ }
-{
-    TELLING[type_code as usize]
-}
-
-// Whether a value's descriptor tells its length: no VarUInt says it, and no test of it fails.
-pub fn tells_length(type_code: u8, length_code: u8) -> bool
-    ensures { λ r. ⌜ r ≡ tellsLength «type_code» «length_code» ⌝ }
-{
-    if 15 < type_code {
-        return false;
-    }
-    if 15 < length_code {
-        return false;
-    }
-    (telling(type_code) >> length_code) % 2 == 1
-}
-
-// The length that such a descriptor tells.
-pub fn told_length(type_code: u8, length_code: u8) -> usize
-    ensures { λ r. ⌜ r ≡ toldLength «type_code» «length_code» ⌝ }
-{
-    if type_code < 2 {
-        return 0;
-    }
-    if length_code == 15 {
-        return 0;
-    }
-    wide(length_code)
-}
-
-// The length code that a value is read by: none for null and bool, and a VarUInt for an ordered struct.
-fn value_code(type_code: u8, length_code: u8) -> u8
-    ensures { λ r. ⌜ r ≡ valueCode «type_code» «length_code» ⌝ }
-{
-    if type_code < 2 {
-        return 0;
-    }
-    if type_code != 13 {
-        return length_code;
-    }
-    if length_code == 1 {
-        return 14;
-    }
-    length_code
-}
-
-fn bad_float(type_code: u8, length_code: u8) -> bool
-    ensures { λ r. ⌜ r ≡ badFloat «type_code» «length_code» ⌝ }
-{
-    if type_code != 4 {
-        return false;
-    }
-    if length_code == 0 {
-        return false;
-    }
-    if length_code == 4 {
-        return false;
-    }
-    if length_code == 8 {
-        return false;
-    }
-    length_code != 15
-}
-
-fn short_timestamp(type_code: u8, length_code: u8, size: usize) -> bool
-    ensures { λ r. ⌜ r ≡ shortTimestamp «type_code» «length_code» size ⌝ }
-{
-    if type_code != 6 {
-        return false;
-    }
-    if length_code == 15 {
-        return false;
-    }
-    size < 2
-}
-
-fn empty_ordered(type_code: u8, length_code: u8, size: usize) -> bool
-    ensures { λ r. ⌜ r ≡ emptyOrdered «type_code» «length_code» size ⌝ }
-{
-    if type_code != 13 {
-        return false;
-    }
-    if length_code != 1 {
-        return false;
-    }
-    size == 0
-}
-
-// Tests the length of the value at `at` by its type.
-fn check_length(at: usize, type_code: u8, length_code: u8, body: usize, size: usize) -> Length
-    ensures { λ r. ⌜ lengthRead r ≡ lengthTests at «type_code» «length_code» (record { body = body; size = size }) ⌝ }
-{
-    if bad_float(type_code, length_code) {
-        return Length::Refused(Refusal {
-            number: BAD_FLOAT_LENGTH,
-            position: at,
-        });
-    }
-    if short_timestamp(type_code, length_code, size) {
-        return Length::Refused(Refusal {
-            number: TIMESTAMP_TOO_SHORT,
-            position: at,
-        });
-    }
-    if empty_ordered(type_code, length_code, size) {
-        return Length::Refused(Refusal {
-            number: EMPTY_ORDERED_STRUCT,
-            position: at,
-        });
-    }
-    Length::Known { body, size }
-}
-
-// The length of the value with this descriptor at `at`.
-fn value_length(s: &[u8], at: usize, end: usize, descriptor: TypeDescriptor) -> Length
-    requires { ⌜ (at < end) × (end ≤ length (now s)) ⌝ }
-    ensures { λ r. ⌜ lengthRead r ≡ valueLength (now (s .entry)) at end descriptor ⌝ }
-{
-    let after = at + 1;
-    if tells_length(descriptor.type_code, descriptor.length_code) {
-        let size = told_length(descriptor.type_code, descriptor.length_code);
-        return Length::Known { body: after, size };
-    }
-    let code = value_code(descriptor.type_code, descriptor.length_code);
-    match read_length(s, after, end, code) {
-        Length::Known { body, size } => check_length(
-            at,
-            descriptor.type_code,
-            descriptor.length_code,
-            body,
-            size,
-        ),
-        Length::Refused(refusal) => Length::Refused(refusal),
-    }
 }
 
 // The pad with this descriptor at `at`.
@@ -310,160 +126,6 @@ fn read_pad(s: &[u8], at: usize, end: usize, descriptor: TypeDescriptor) -> NopP
             NopPad::Pad { body, end: past }
         }
         Length::Refused(refusal) => NopPad::Refused(refusal),
-    }
-}
-
-// Tests the wrapper at `at`: its combined length is counted from `body` on, and its annotations' length, `size`, ends at
-// `annotations`.
-fn check_wrapper(
-    at: usize,
-    end: usize,
-    body: usize,
-    combined: usize,
-    size: usize,
-    annotations: usize,
-) -> AnnotationsWrapper
-    requires { ⌜ (body ≤ annotations) × (annotations ≤ end) × (annotations ≤ body + 9) × (size < 2 ^ 63) ⌝ }
-    ensures { λ r. ⌜ wrapperRead r ≡ wrapperTests at end (record { body = body; size = combined }) (record { value = size; next = annotations }) ⌝ }
-{
-    if size == 0 {
-        return AnnotationsWrapper::Refused(Refusal {
-            number: NO_ANNOTATIONS,
-            position: at,
-        });
-    }
-    let header = annotations - body;
-    let needed = header + size;
-    if combined < needed {
-        return AnnotationsWrapper::Refused(Refusal {
-            number: ANNOTATIONS_TOO_LONG,
-            position: at,
-        });
-    }
-    if combined == needed {
-        return AnnotationsWrapper::Refused(Refusal {
-            number: NO_ROOM_FOR_VALUE,
-            position: at,
-        });
-    }
-    if end - annotations < size {
-        return AnnotationsWrapper::Refused(Refusal {
-            number: ANNOTATIONS_CUT,
-            position: annotations,
-        });
-    }
-    if MOST_ANNOTATIONS < size {
-        return AnnotationsWrapper::Refused(Refusal {
-            number: TOO_MANY_ANNOTATIONS,
-            position: at,
-        });
-    }
-    let value = annotations + size;
-    let expected = combined - needed;
-    AnnotationsWrapper::Wrapper {
-        annotations,
-        value,
-        expected,
-    }
-}
-
-// The wrapper with this descriptor at `at`.
-fn read_wrapper(s: &[u8], at: usize, end: usize, descriptor: TypeDescriptor) -> AnnotationsWrapper
-    requires { ⌜ (at < end) × (end ≤ length (now s)) ⌝ }
-    ensures { λ r. ⌜ wrapperRead r ≡ wrapperAt (now (s .entry)) at end descriptor ⌝ }
-{
-    let after = at + 1;
-    match read_length(s, after, end, descriptor.length_code) {
-        Length::Known { body, size } => match next_var_uint(s, body, end) {
-            VarUInt::Value { value, next } => check_wrapper(at, end, body, size, value, next),
-            VarUInt::Refused(refusal) => AnnotationsWrapper::Refused(refusal),
-        },
-        Length::Refused(refusal) => AnnotationsWrapper::Refused(refusal),
-    }
-}
-
-// Where a value stands, once its wrapper is read: `expected` is how long the wrapper's lengths say that it is, 0 where it has no wrapper.
-enum Opened {
-    Value {
-        annotations: usize,
-        value: usize,
-        expected: usize,
-        descriptor: TypeDescriptor,
-    },
-    Refused(Refusal),
-}
-
-// What stands at `value` in a wrapper, where something does that may.
-fn open_inner(s: &[u8], end: usize, annotations: usize, value: usize, expected: usize) -> Opened
-    ensures { λ r. ⌜ openedRead r ≡ innerAt (now (s .entry)) end (record { annotations = annotations; value = value; expected = expected }) ⌝ }
-{
-    match begin(s, value, end) {
-        Begun::At(descriptor) => {
-            let kind = descriptor.kind;
-            if is_wrapper(kind) {
-                return Opened::Refused(Refusal {
-                    number: WRAPPER_IN_WRAPPER,
-                    position: value,
-                });
-            }
-            if is_pad(kind) {
-                return Opened::Refused(Refusal {
-                    number: PAD_IN_WRAPPER,
-                    position: value,
-                });
-            }
-            if no_value(kind) {
-                return Opened::Refused(Refusal {
-                    number: NOT_A_VALUE,
-                    position: value,
-                });
-            }
-            Opened::Value {
-                annotations,
-                value,
-                expected,
-                descriptor,
-            }
-        }
-        Begun::Refused(refusal) => Opened::Refused(refusal),
-    }
-}
-
-// Where the value of the wrapper with this descriptor at `at` stands.
-fn open_wrapper(s: &[u8], at: usize, end: usize, descriptor: TypeDescriptor) -> Opened
-    requires { ⌜ (at < end) × (end ≤ length (now s)) ⌝ }
-    ensures { λ r. ⌜ openedRead r ≡ openedWrapper (now (s .entry)) at end descriptor ⌝ }
-{
-    match read_wrapper(s, at, end, descriptor) {
-        AnnotationsWrapper::Wrapper {
-            annotations,
-            value,
-            expected,
-        } => open_inner(s, end, annotations, value, expected),
-        AnnotationsWrapper::Refused(refusal) => Opened::Refused(refusal),
-    }
-}
-
-// Where the value with this descriptor at `at`, or in the wrapper with this descriptor, stands.
-fn open_value(s: &[u8], at: usize, end: usize, descriptor: TypeDescriptor) -> Opened
-    requires { ⌜ (at < end) × (end ≤ length (now s)) ⌝ }
-    ensures { λ r. ⌜ openedRead r ≡ openedAt (now (s .entry)) at end descriptor ⌝ }
-{
-    let kind = descriptor.kind;
-    if is_wrapper(kind) {
-        return open_wrapper(s, at, end, descriptor);
-    }
-    if no_value(kind) {
-        return Opened::Refused(Refusal {
-            number: NOT_A_VALUE,
-            position: at,
-        });
-    }
-    Opened::Value {
-        annotations: at,
-        value: at,
-        expected: 0,
-        descriptor,
     }
 }
 
@@ -512,6 +174,18 @@ fn close_value(
         end: after,
         byte,
     })
+}
+
+// The value at `at` whose body is to begin at `body`, after a short length field, and have `size` bytes, if it fits.
+fn fit_short(at: usize, end: usize, body: usize, size: usize) -> ShortValue
+    requires { ⌜ (body ≤ end) × (body ≤ at + 1 + shortBytes) ⌝ }
+    ensures { λ r. ⌜ ((byte : ℕ) → shortValueRead byte at r ≡ shortValueOf at (fitting at end byte (record { body = body; size = size }))) ⌝ }
+{
+    if end - body < size {
+        return ShortValue::Other;
+    }
+    let past = body + size;
+    ShortValue::Value { body, end: past }
 }
 
 // The value that stands at `value` with this descriptor, in the item at `at`.
@@ -577,6 +251,60 @@ pub fn read_value(s: &[u8], at: usize, end: usize) -> Framed
     match begin(s, at, end) {
         Begun::At(descriptor) => read_value_at(s, at, end, descriptor),
         Begun::Refused(refusal) => Framed::Refused(refusal),
+    }
+}
+
+// Whether a byte begins a value or a null, without a wrapper.
+pub fn begins_value(byte: u8) -> bool
+    ensures { λ r. ⌜ r ≡ beginsValue byte ⌝ }
+{
+    if byte < FIRST_VALUE {
+        return false;
+    }
+    byte < FIRST_WRAPPER
+}
+
+// The value without a wrapper whose descriptor is this byte at `at`, with the body body..end.
+pub fn bare_value(byte: u8, at: usize, body: usize, end: usize) -> EncodedValue
+    ensures { λ r. ⌜ spansOf r ≡ bareSpans byte at body end ⌝ }
+{
+    EncodedValue {
+        start: at,
+        annotations: at,
+        descriptor: at,
+        body,
+        end,
+        byte,
+    }
+}
+
+// The value at `at`, where it has no wrapper and its length field has three bytes at most: its descriptor tells its length, or a short VarUInt does.
+pub fn short_value(s: &[u8], at: usize, end: usize) -> ShortValue
+    ensures { λ r. ⌜ shortValueRead (getD (now (s .entry)) at 0) at r ≡ shortValueOf at (readValue (now (s .entry)) at end) ⌝ }
+{
+    if s.len() < end {
+        return ShortValue::Other;
+    }
+    if end <= at {
+        return ShortValue::Other;
+    }
+    let byte = s[at];
+    let after = at + 1;
+    if tells_length(byte / 16, byte % 16) {
+        let size = told_length(byte / 16, byte % 16);
+        return fit_short(at, end, after, size);
+    }
+    if !reads_length(byte / 16, byte % 16) {
+        return ShortValue::Other;
+    }
+    match short_var_uint(s, after, end) {
+        ShortVarUInt::Value { value, next } => {
+            if too_short(byte / 16, byte % 16, value) {
+                return ShortValue::Other;
+            }
+            fit_short(at, end, next, value)
+        }
+        ShortVarUInt::Other => ShortValue::Other,
     }
 }
 

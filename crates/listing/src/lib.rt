@@ -7,6 +7,7 @@ use maps::walk::Walk;
 use numbers::refusal::INPUT_TOO_LONG;
 use numbers::refusal::Refusal;
 use stepping::cursor::Item;
+use stepping::cursor::is_last;
 
 // The most bytes of a map that are listed.
 const MOST: usize = 65536;
@@ -123,15 +124,6 @@ fn put_answer(page: &mut [u8], taken: usize, depth: usize, item: Item) -> usize 
             value,
         } => put_value(page, taken, depth, start, value),
         Item::Refused(refusal) => put_refusal(page, taken, refusal),
-    }
-}
-
-// Whether nothing follows an answer.
-fn is_last(item: Item) -> bool {
-    match item {
-        Item::End { position: _ } => true,
-        Item::Refused(_) => true,
-        _ => false,
     }
 }
 

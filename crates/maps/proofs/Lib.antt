@@ -1,10 +1,3 @@
-pub mod Seeking
-pub mod Storing
-pub mod InPlace
-pub mod Telling
+pub mod Within
 pub mod ManySteps
-pub mod Counting
-pub mod Unrolled
-pub mod Exact
-pub mod Ending
 pub mod RunsOfCalls

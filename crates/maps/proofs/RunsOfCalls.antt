@@ -2,37 +2,31 @@
 -- Assumes nothing.
 use Prim.Native.Nat.{ℕ, zero, suc, _≤_, _<_}
 use native.Mathlib.Omega.{arith}
-use borrow.Author.Tests.{le-ltb}
 use mathlib.Core.Path.{_≡_, refl, _∙_, sym, ap, subst}
-use mathlib.Core.Bool.{true, false}
+use mathlib.Core.Bool.{false}
 use mathlib.Core.List.{List, [], _∷_, map}
 use lib.ListN.{length}
-use Rattle.numbers.specs.Outcome.{Outcome, gives, refuses, outsideOf}
+use Rattle.numbers.specs.Outcome.{Outcome, refuses, outsideOf}
 use Rattle.numbers.proofs.Outcomes.{by-case, inside-order, inside-end}
-use Rattle.stepping.specs.Answers.{Item, finish, marker, value, field, after, Stepped, found, stepOf}
+use Rattle.stepping.specs.Items.{Item}
+use Rattle.stepping.specs.Answers.{after, Stepped, stepOf, answerAt}
+use Rattle.stepping.specs.Kinds.{rulesOf}
+use Rattle.stepping.specs.Leaving.{leftOf, onLeft}
 use Rattle.stepping.specs.Runs.{cursor, Answers, Run, none, call}
 use Rattle.stepping.specs.declared.cursor.Rules.{Rules}
 use Rattle.stepping.specs.declared.cursor.Cursor.{Cursor}
 use Rattle.stepping.proofs.Places.{a-marker, a-value, a-field, in-ends}
 use Rattle.stepping.proofs.Moves.{Moves, ends, hands, stops, moves}
-use Rattle.maps.specs.Walk.{answerAt}
-use Rattle.maps.specs.Exported.{rulesOf, exportedStep, behindStep, exportedRun}
+use Rattle.maps.specs.Steps.{exportedRun}
+use Rattle.maps.specs.Private.Inside.{insideOf}
+use Rattle.maps.specs.Private.Run.{stepRun}
 use Rattle.maps.specs.Theorems.{answerOf, RunsOfCalls}
-
--- an exported step is a step
-step-is : (s : List ℕ) (start end position kind : ℕ) → start ≤ position → kind ≤ 2 → exportedStep s start end position kind ≡ answerAt (rulesOf kind) s position end
-unfolding exportedStep
-step-is s start end position kind l k = rw (le-ltb position start l, le-ltb 2 kind k)
+use Rattle.maps.proofs.Within.{step-is, refused-outside, step-outside}
 
 -- the answer of a step, and the cursor that it leaves
 stepped : (rules : Rules) (s : List ℕ) (at end : ℕ) → stepOf rules s (cursor at end) ≡ record { answer = answerAt rules s at end; next = after (cursor at end) (answerAt rules s at end) }
 unfolding stepOf
 stepped rules s at end = refl
-
--- a step on no part is refused
-refused-outside : (rules : Rules) (s : List ℕ) (at end : ℕ) → outsideOf s at end ≡ true → answerAt rules s at end ≡ refuses 50 0
-unfolding stepOf found
-refused-outside rules s at end h = rw (answerAt, h)
 
 module _ (s : List ℕ) (start end kind : ℕ) (k : kind ≤ 2) where
   abbrev Runs : ℕ → List (Outcome Item) → Type 0
@@ -55,27 +49,54 @@ module _ (s : List ℕ) (start end kind : ℕ) (k : kind ≤ 2) where
         let r = from e (omega arith) in
         first at o (go e) q (r .0) (subst (λ (c : Cursor). Run (Answers (rulesOf kind) s) c (r .0)) (sym p) (r .1)) (r .2)
 
-    moved : {o : Outcome Item} → Moves at end o → answerAt (rulesOf kind) s at end ≡ o → Runs at (o ∷ behindStep o go)
+    moved : {o : Outcome Item} → Moves at end o → answerAt (rulesOf kind) s at end ≡ o → Runs at (o ∷ onLeft (leftOf o) [] go)
     moved ends q = last at _ q
     moved (hands (a-marker {e = e} h m)) q = to-end e h q refl
     moved (hands (a-value {v} i)) q = to-end (v .end) (in-ends (a-value i) .0) q refl
     moved (hands (a-field {id} {a} {v} i)) q = to-end (v .end) (in-ends (a-field {id = id} {a = a} i) .0) q refl
     moved (stops x) q = last at _ q
 
-    behind : Runs at (answerAt (rulesOf kind) s at end ∷ behindStep (answerAt (rulesOf kind) s at end) go)
+    behind : Runs at (answerAt (rulesOf kind) s at end ∷ onLeft (leftOf (answerAt (rulesOf kind) s at end)) [] go)
     behind =
         by-case (outsideOf s at end)
         (λ h.
         let e = refused-outside (rulesOf kind) s at end h in
-        subst (λ (o : Outcome Item). Runs at (o ∷ behindStep o go)) (sym e) (last at (refuses 50 0) e))
+        subst (λ (o : Outcome Item). Runs at (o ∷ onLeft (leftOf o) [] go)) (sym e) (last at (refuses 50 0) e))
         (λ h. moved (moves (rulesOf kind) s end (inside-end s at end h) at (inside-order s at end h)) refl)
 
   runs : (n at : ℕ) → start ≤ at → Runs at (exportedRun n s start end at kind)
   unfolding exportedRun
   runs zero at l = ([], none, refl)
   runs (suc n) at l =
-      subst (λ (o : Outcome Item). Runs at (o ∷ behindStep o (λ e. exportedRun n s start end e kind))) (sym (step-is s start end at kind l k))
+      subst (λ (o : Outcome Item). Runs at (o ∷ onLeft (leftOf o) [] (λ e. exportedRun n s start end e kind))) (sym (step-is s start end at kind l k))
       (behind at l (λ e. exportedRun n s start end e kind) (λ e m. runs n e m))
 
 pub runs-of-calls : RunsOfCalls
 runs-of-calls s start end position kind n l k = runs s start end kind k n position l
+
+-- ---- by their rules
+
+module _ (s : List ℕ) (start end kind : ℕ) (m : end ≤ length s) where
+  abbrev both : ℕ → Outcome Item → List (Outcome Item) × List (Outcome Item)
+  both n o = (onLeft (leftOf o) [] (λ e. exportedRun n s start end e kind), onLeft (leftOf o) [] (λ e. stepRun n (rulesOf kind) s e end))
+
+  -- what follows an answer is the same, if it is from every place behind it
+  follows : (n at : ℕ) → start ≤ at → ((e : ℕ) → at < e → e ≤ end → exportedRun n s start end e kind ≡ stepRun n (rulesOf kind) s e end) → {o : Outcome Item} → Moves at end o → both n o .0 ≡ both n o .1
+  follows n at l go ends = refl
+  follows n at l go (hands (a-marker {e = e} h k)) = go e h k
+  follows n at l go (hands (a-value {v} i)) = let p = in-ends (a-value i) in go (v .end) (p .0) (p .1)
+  follows n at l go (hands (a-field {id} {a} {v} i)) = let p = in-ends (a-field {id = id} {a = a} i) in go (v .end) (p .0) (p .1)
+  follows n at l go (stops x) = refl
+
+  -- in a part exported steps are steps
+  pub run-is : (n at : ℕ) → start ≤ at → kind ≤ 2 → at ≤ end → exportedRun n s start end at kind ≡ stepRun n (rulesOf kind) s at end
+  unfolding exportedRun stepRun
+  run-is zero at l k o = refl
+  run-is (suc n) at l k o =
+      rw (step-is s start end at kind l k)
+      (ap (λ (os : List (Outcome Item)). answerAt (rulesOf kind) s at end ∷ os) (follows n at l (λ e h q. run-is n e (omega arith) k q) (moves (rulesOf kind) s end m at o)))
+
+-- outside there is one, which is refused
+pub run-outside : (s : List ℕ) (start end at kind : ℕ) {n m : ℕ} → n ≡ suc m → insideOf s start end at kind ≡ false → exportedRun n s start end at kind ≡ refuses 50 0 ∷ []
+unfolding exportedRun
+run-outside s start end at kind q h = rw (q, step-outside s start end at kind h)

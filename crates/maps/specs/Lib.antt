@@ -1,8 +1,4 @@
-pub mod Buffer
-pub mod Walk
-pub mod Calls
-pub mod Private
-pub mod InPlace
 pub mod Exported
-pub mod Reading
+pub mod Steps
 pub mod Theorems
+pub mod Private

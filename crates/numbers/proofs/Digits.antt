@@ -7,7 +7,7 @@ use mathlib.Core.Path.{_≡_}
 use mathlib.Core.List.{List, [], _∷_, map}
 use lib.ListN.{length, length-map}
 use Rattle.numbers.specs.Format.{ofDigits, lowSeven, varUIntOf}
-use Rattle.numbers.specs.Groups.{followedBy}
+use Rattle.numbers.specs.Private.Groups.{followedBy}
 
 -- a digit below the base, before digits worth less than m, is worth m at each step
 pub digit-below : (base d x m : ℕ) → d < base → x < m → d * m + x < m * base

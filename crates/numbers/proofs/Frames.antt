@@ -8,10 +8,10 @@ use mathlib.Core.List.{List}
 use lib.ListN.{length, getD}
 use lib.Dec.{ltb, eqb}
 use borrow.Author.Tests.{ltb-false, ltb-true, eqb-true, eqb-false, lt-ltb, le-ltb}
-use Rattle.numbers.specs.Format.{varUIntOf, varIntNegative, varIntMagnitude, intNegative}
-use Rattle.numbers.specs.Outcome.{Outcome, gives, refuses, refuseIf, pick, within, part, Same, outsideOf}
-use Rattle.numbers.specs.Answers.{Unsigned, Signed, Fixed, unsigned, signed, lastByte, lookedTo, varNumber, varUInt, varInt, int}
-use Rattle.numbers.specs.Meaning.{NumberAt}
+use Rattle.numbers.specs.Format.{varUIntOf, varIntNegative, varIntMagnitude, intNegative, NumberAt}
+use Rattle.numbers.specs.Outcome.{Outcome, gives, refuses, refuseIf, pick, within, outsideOf}
+use Rattle.numbers.specs.Bytes.{part, Same}
+use Rattle.numbers.specs.Answers.{mostBytes, Unsigned, Signed, Fixed, unsigned, signed, lastByte, lookedTo, varNumber, varUInt, varInt, int}
 use Rattle.numbers.proofs.Outcomes.{by-test, refuse-same, pick-same, inside-order, inside-end}
 use Rattle.numbers.proofs.Parts.{part-same, part-cons}
 use Rattle.numbers.proofs.LastByte.{last-same, last-high, last-low, last-is}
@@ -53,7 +53,7 @@ module _ {A : Type 0} (cut : ℕ) (answer answer' : ℕ → A) (s t : List ℕ) 
       rw last
       (refuse-same (eqb l end) cut end (λ ne.
       let p : l < end = omega (arith, last-high s at end a, eqb-false l end ne) in
-      refuse-same (ltb 9 (l + 1 - at)) 20 at (λ _.
+      refuse-same (ltb mostBytes (l + 1 - at)) 20 at (λ _.
       ap gives (h (l + 1) (omega arith) (λ i c d. same i c (looked-each s at end i (omega arith) (omega arith))))))))
     where
       l : ℕ

@@ -10,10 +10,11 @@ use mathlib.Core.List.{List, [], _∷_, map}
 use lib.ListN.{length, getD, length-map}
 use lib.Dec.{ltb, eqb}
 use borrow.Author.Tests.{ltb-true, ltb-false, eqb-true, eqb-false, le-ltb, lt-ltb, ne-eqb, eq-eqb}
-use Rattle.numbers.specs.Format.{VarBytes, last, more, ofDigits, lowSeven, varUIntOf, varIntMagnitude, intNegative, intMagnitude}
-use Rattle.numbers.specs.Outcome.{Outcome, gives, refuses, refuseIf, pick, part, outsideOf}
+use Rattle.numbers.specs.Format.{VarBytes, last, more, ofDigits, lowSeven, varUIntOf, varIntMagnitude, intNegative, intMagnitude, NumberAt}
+use Rattle.numbers.specs.Outcome.{Outcome, gives, refuses, refuseIf, pick, outsideOf}
+use Rattle.numbers.specs.Bytes.{part}
 use Rattle.numbers.specs.Answers.{Unsigned, Signed, Fixed, unsigned, signed, mostBytes, lastByte, varNumber, varUInt, varInt, int}
-use Rattle.numbers.specs.Meaning.{NumberAt, NumberTold, reads, outside, cut-short, too-long, VarUIntTold, VarIntTold, VarUIntReads, VarIntReads, VarUIntSmall, VarIntSmall, IntTold, IntsTold, IntsRead}
+use Rattle.numbers.specs.Meaning.{NumberTold, reads, outside, cut-short, too-long, VarUIntTold, VarIntTold, VarUIntReads, VarIntReads, VarUIntSmall, VarIntSmall, IntTold, IntsTold, IntsRead}
 use Rattle.numbers.proofs.Outcomes.{by-test, by-refusal, within-part, inside-order, inside-end, outside-cases, Each, given, each-within, each-pick, each-refuse, each-of, each-if, Proper, gave, proper-within, proper-refuse}
 use Rattle.numbers.proofs.Parts.{part-cons, part-none, part-one, part-length, part-at}
 use Rattle.numbers.proofs.Digits.{digit-below, digits-below, lows-below}
@@ -85,8 +86,8 @@ module _ {A : Type 0} (cut : ℕ) (answer : ℕ → A) (s : List ℕ) (at end : 
       by-refusal P (eqb l end) cut end
       (λ e. let d : l ≡ end = eqb-true l end e in cut-short a b (λ i p q. f .before i p (omega arith))) (λ e.
       let d : l < end = omega (arith, f .high, eqb-false l end e) in
-      by-refusal P (ltb 9 (l + 1 - at)) 20 at (λ n. too-long (number-at s at end l b d f) (omega (arith, ltb-true 9 (l + 1 - at) n, f .low)))
-      (λ n. reads (number-at s at end l b d f) (omega (arith, ltb-false 9 (l + 1 - at) n)))))
+      by-refusal P (ltb mostBytes (l + 1 - at)) 20 at (λ n. too-long (number-at s at end l b d f) (omega (arith, ltb-true mostBytes (l + 1 - at) n, f .low)))
+      (λ n. reads (number-at s at end l b d f) (omega (arith, ltb-false mostBytes (l + 1 - at) n)))))
     where
       P : Outcome A → Type 0
       P = NumberTold cut answer s at end
@@ -97,14 +98,14 @@ module _ {A : Type 0} (cut : ℕ) (answer : ℕ → A) (s : List ℕ) (at end : 
       f : Found s at (end - at) l
       f = found s at end
 
-  pub number-reads : (next : ℕ) → NumberAt s at end next → next ≤ at + 9 → varNumber cut answer s at end ≡ gives (answer next)
+  pub number-reads : (next : ℕ) → NumberAt s at end next → next ≤ at + mostBytes → varNumber cut answer s at end ≡ gives (answer next)
   unfolding varNumber
   number-reads zero n h = absurd (omega (arith, n .begins))
   number-reads (suc l) n h =
       let m : NumberAt s at end (l + 1) = subst (NumberAt s at end) (sym (add-one l)) n in
       let e : lastByte s at end ≡ l = last-is s at end l (found-at s at end l m) in
       within-part s at end (omega (arith, n .begins, n .ends)) (n .within)
-      ∙ rw (e, ne-eqb l end (omega (arith, n .ends)), le-ltb 9 (l + 1 - at) (omega arith), add-one l)
+      ∙ rw (e, ne-eqb l end (omega (arith, n .ends)), le-ltb mostBytes (l + 1 - at) (omega arith), add-one l)
 
 pub var-uint-told : VarUIntTold
 unfolding varUInt
@@ -126,7 +127,7 @@ var-int-reads s at end next n h = number-reads 4 (signed s at) s at end next n h
 pub record ReadAt {A : Type 0} (answer : ℕ → A) (s : List ℕ) (at end : ℕ) (a : A) : Type 0 where
   pub next : ℕ
   pub number : NumberAt s at end next
-  pub short : next ≤ at + 9
+  pub short : next ≤ at + mostBytes
   pub is : a ≡ answer next
 
 pub read-at : {A : Type 0} {cut : ℕ} {answer : ℕ → A} {s : List ℕ} {at end : ℕ} {o : Outcome A} {a : A} → NumberTold cut answer s at end o → o ≡ gives a → ReadAt answer s at end a
@@ -145,14 +146,14 @@ pub var-uint-each : (s : List ℕ) (at end : ℕ) → Each (ReadAt (unsigned s a
 var-uint-each s at end = each-if (varUInt s at end) (λ u e. var-uint-at s at end e)
 
 -- nine groups of seven bits are below 2^63, and a sign and the rest below 2^62
-groups-small : (bs : List ℕ) → length bs ≤ 9 → varUIntOf bs < 2 ^ 63
+groups-small : (bs : List ℕ) → length bs ≤ mostBytes → varUIntOf bs < 2 ^ 63
 unfolding varUIntOf
 groups-small bs h =
-    let p : 128 ^ length bs ≤ 128 ^ 9 = pow-le-pow-right {n = 128} (omega arith) {i = length bs} {j = 9} h in
+    let p : 128 ^ length bs ≤ 128 ^ mostBytes = pow-le-pow-right {n = 128} (omega arith) {i = length bs} {j = mostBytes} h in
     let q : ofDigits 128 (map lowSeven bs) < 128 ^ length bs = rw (← length-map bs lowSeven) (digits-below (lows-below bs)) in
     lt-of-lt-of-le q p
 
-signed-small : (bs : List ℕ) → length bs ≤ 9 → varIntMagnitude bs < 2 ^ 62
+signed-small : (bs : List ℕ) → length bs ≤ mostBytes → varIntMagnitude bs < 2 ^ 62
 unfolding varIntMagnitude ofDigits
 signed-small [] h = omega arith
 signed-small (b ∷ bs) h =
@@ -166,21 +167,21 @@ pub var-uint-small : VarUIntSmall
 var-uint-small s at end u e =
     let r : ReadAt (unsigned s at) s at end u = var-uint-at s at end e in
     let n : NumberAt s at end (r .next) = r .number in
-    let l : length (part s at (r .next)) ≤ 9 = omega (arith, part-length s at (r .next) (omega (arith, n .ends, n .within)), r .short) in
+    let l : length (part s at (r .next)) ≤ mostBytes = omega (arith, part-length s at (r .next) (omega (arith, n .ends, n .within)), r .short) in
     rw (r .is) (groups-small (part s at (r .next)) l)
 
 pub var-int-small : VarIntSmall
 var-int-small s at end i e =
     let r : ReadAt (signed s at) s at end i = var-int-at s at end e in
     let n : NumberAt s at end (r .next) = r .number in
-    let l : length (part s at (r .next)) ≤ 9 = omega (arith, part-length s at (r .next) (omega (arith, n .ends, n .within)), r .short) in
+    let l : length (part s at (r .next)) ≤ mostBytes = omega (arith, part-length s at (r .next) (omega (arith, n .ends, n .within)), r .short) in
     rw (r .is) (signed-small (part s at (r .next)) l)
 
 -- where a VarUInt ends, and how large it is
 pub record Bounded (at end : ℕ) (u : Unsigned) : Type 0 where
   pub begins : at < u .next
   pub ends : u .next ≤ end
-  pub short : u .next ≤ at + 9
+  pub short : u .next ≤ at + mostBytes
   pub small : u .value < 2 ^ 63
 
 pub var-uint-bounded : (s : List ℕ) (at end : ℕ) → Each (Bounded at end) (varUInt s at end)

@@ -4,7 +4,7 @@ use Prim.Native.Nat.{ℕ, _+_, _*_, _/_, _%_}
 use native.Mathlib.Omega.{arith}
 use mathlib.Core.Path.{_≡_, refl, _∙_, ap}
 use Rattle.numbers.specs.Descriptor.{kindOf}
-use Rattle.numbers.specs.Packed.{kindNumber, packedOf, numberedKind}
+use Rattle.numbers.specs.Private.Packed.{kindNumber, packedOf, numberedKind}
 use Rattle.numbers.specs.declared.type_descriptor.Kind.{Kind}
 use Rattle.numbers.specs.declared.type_descriptor.Kind.the-variants.{Value, Null, Pad, Marker, Wrapper, Reserved}
 

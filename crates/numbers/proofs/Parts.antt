@@ -7,7 +7,7 @@ use mathlib.Core.Path.{_≡_, _∙_, sym, ap}
 use mathlib.Core.List.{List, [], _∷_}
 use lib.ListN.{length, getD, take, drop, length-take, length-drop}
 use lib.Seq.{slice-cons, slice-empty, length-slice, ext-getD, getD-take, getD-drop}
-use Rattle.numbers.specs.Outcome.{part, Same}
+use Rattle.numbers.specs.Bytes.{part, Same}
 
 pub part-cons : (s : List ℕ) (a b : ℕ) → a < b → b ≤ length s → part s a b ≡ getD s a 0 ∷ part s (a + 1) b
 part-cons s a b h l = slice-cons a b s 0 h l ∙ ap (λ (n : ℕ). getD s a 0 ∷ part s n b) (sym (add-one a))

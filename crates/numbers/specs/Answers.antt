@@ -6,7 +6,8 @@ use mathlib.Core.List.{List, []}
 use lib.ListN.{length, getD}
 use lib.Dec.{ltb, leb, eqb}
 use Rattle.numbers.specs.Format.{varUIntOf, varIntNegative, varIntMagnitude, intNegative}
-use Rattle.numbers.specs.Outcome.{Outcome, gives, refuses, pick, refuseIf, within, part}
+use Rattle.numbers.specs.Outcome.{Outcome, gives, refuses, pick, refuseIf, within}
+use Rattle.numbers.specs.Bytes.{part}
 
 -- "A byte from 80 up is the last": where it stands among the n bytes from `at` on, and their end where there is none.
 unfoldable pub lastAmong : List ℕ → ℕ → ℕ → ℕ

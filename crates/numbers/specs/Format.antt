@@ -5,6 +5,7 @@ use mathlib.Core.Bool.{Bool, false}
 use mathlib.Core.List.{List, [], _∷_, map}
 use lib.ListN.{length}
 use lib.Dec.{leb, eqb}
+use Rattle.numbers.specs.Bytes.{part}
 
 -- digits in a base, the most significant first: each is worth the base to the power of how many digits follow it
 unfoldable pub ofDigits : ℕ → List ℕ → ℕ
@@ -45,3 +46,10 @@ varIntNegative (b ∷ bs) = eqb (b / 64 % 2) 1
 unfoldable pub varIntMagnitude : List ℕ → ℕ
 varIntMagnitude [] = 0
 varIntMagnitude (b ∷ bs) = ofDigits 128 (b % 64 ∷ map lowSeven bs)
+
+-- the part at..end of the slice begins with the bytes at..next of a VarUInt or a VarInt
+pub record NumberAt (s : List ℕ) (at end next : ℕ) : Type 0 where
+  pub bytes : VarBytes (part s at next)
+  pub begins : at < next
+  pub ends : next ≤ end
+  pub within : end ≤ length s

@@ -1,9 +1,9 @@
-pub mod Format
+pub mod Bytes
 pub mod Outcome
+pub mod Format
 pub mod Answers
 pub mod Short
 pub mod Descriptor
 pub mod Read
-pub mod Groups
-pub mod Packed
 pub mod Meaning
+pub mod Private

@@ -6,16 +6,10 @@ use mathlib.Core.Path.{_≡_}
 use mathlib.Core.Logic.{_⊎_}
 use mathlib.Core.List.{List, _∷_}
 use lib.ListN.{length, getD}
-use Rattle.numbers.specs.Format.{VarBytes, ofDigits, intNegative, intMagnitude}
-use Rattle.numbers.specs.Outcome.{Outcome, gives, refuses, part}
+use Rattle.numbers.specs.Format.{NumberAt, ofDigits, intNegative, intMagnitude}
+use Rattle.numbers.specs.Outcome.{Outcome, gives, refuses}
+use Rattle.numbers.specs.Bytes.{part}
 use Rattle.numbers.specs.Answers.{Unsigned, Signed, Fixed, unsigned, signed, mostBytes, varUInt, varInt, int}
-
--- the part at..end of the slice begins with the bytes at..next of a VarUInt or a VarInt
-pub record NumberAt (s : List ℕ) (at end next : ℕ) : Type 0 where
-  pub bytes : VarBytes (part s at next)
-  pub begins : at < next
-  pub ends : next ≤ end
-  pub within : end ≤ length s
 
 -- what the bytes are under each answer: at most nine of them, which the answer is made of; a part outside the slice; no last byte in the part; or
 -- more than nine bytes

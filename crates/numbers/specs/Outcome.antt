@@ -1,12 +1,10 @@
 -- An entry's answer in the scope paper's terms: what it gives, or a refusal's number and position.
 -- Assumes nothing.
-use Prim.Native.Nat.{ℕ, _≤_, _<_}
-use mathlib.Core.Path.{_≡_}
+use Prim.Native.Nat.{ℕ}
 use mathlib.Core.Bool.{Bool, true, false}
 use mathlib.Core.List.{List}
-use lib.ListN.{length, getD}
+use lib.ListN.{length}
 use lib.Dec.{ltb}
-use lib.Seq.{slice}
 
 pub data Outcome (A : Type 0) : Type 0 where
   gives : A → Outcome A
@@ -33,11 +31,3 @@ outsideOf s at end = pick (ltb end at) true (ltb (length s) end)
 -- Refusal 50: "parts or positions outside the slice, out of order", position 0.
 abbrev pub within : {A : Type 0} → List ℕ → ℕ → ℕ → Outcome A → Outcome A
 within s at end o = refuseIf (outsideOf s at end) 50 0 o
-
--- the bytes a..b of a slice
-abbrev pub part : List ℕ → ℕ → ℕ → List ℕ
-part s a b = slice a b s
-
--- two slices have the same bytes at a..b
-abbrev pub Same : List ℕ → List ℕ → ℕ → ℕ → Type 0
-Same s t a b = (i : ℕ) → a ≤ i → i < b → getD s i 0 ≡ getD t i 0

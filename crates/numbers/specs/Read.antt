@@ -1,6 +1,5 @@
 -- What each case of a reading's enum says in the scope paper's terms: its values, or its refusal's number and position.
 -- Assumes nothing.
-use Prim.Native.Nat.{ℕ}
 use Rattle.numbers.specs.Outcome.{Outcome, gives, refuses}
 use Rattle.numbers.specs.Answers.{Unsigned, Signed, Fixed}
 use Rattle.numbers.specs.Short.{Short, short, none}

@@ -5,11 +5,15 @@ use lib.Dec.{leb}
 use Rattle.numbers.specs.Outcome.{Outcome, gives, refuses, pick}
 use Rattle.numbers.specs.Answers.{Unsigned}
 
+-- the most bytes of a short one
+abbrev pub shortBytes : ℕ
+shortBytes = 3
+
 pub data Short : Type 0 where
   short : Unsigned → Short
   none : Short
 
 -- what is said, of the reading of the VarUInt at `at`
 abbrev pub shortOf : ℕ → Outcome Unsigned → Short
-shortOf at (gives u) = pick (leb (u .next) (at + 3)) (short u) none
+shortOf at (gives u) = pick (leb (u .next) (at + shortBytes)) (short u) none
 shortOf at (refuses number position) = none

@@ -5,10 +5,10 @@ ghost use mathlib.Core.Path.{_≡_};
 ghost use Prim.Native.Nat.{ℕ, _+_, _-_, _≤_, _<_, _^_};
 ghost use lib.ListN.{length};
 ghost use Rattle.numbers.specs.Outcome.{outsideOf};
-ghost use Rattle.numbers.specs.Answers.{varUInt, varInt, int, intRest};
+ghost use Rattle.numbers.specs.Answers.{mostBytes, varUInt, varInt, int, intRest};
 ghost use Rattle.numbers.specs.Short.{shortOf};
 ghost use Rattle.numbers.specs.Read.{varUIntRead, shortRead, varIntRead, intRead};
-ghost use Rattle.numbers.specs.Groups.{groups};
+ghost use Rattle.numbers.specs.Private.Groups.{groups, Begins};
 use crate::int::Int;
 use crate::refusal::INT_CUT;
 use crate::refusal::NUMBER_TOO_LONG;
@@ -48,7 +48,7 @@ fn refused(number: u64, position: usize) -> VarUInt
 // The answer to a number that began at `from` and has nine bytes or more before `at`: too long where its last byte is
 // in at..end, cut short where it is not.
 fn read_past_limit(s: &[u8], from: usize, at: usize, end: usize, cut: u64) -> VarUInt
-    requires { ⌜ (from + 9 ≤ at) × (at ≤ end) × (end ≤ length (now s)) ⌝ }
+    requires { ⌜ (from + mostBytes ≤ at) × (at ≤ end) × (end ≤ length (now s)) ⌝ }
     ensures { λ r. ⌜ ((v : ℕ) → varUIntRead r ≡ groups cut v (now (s .entry)) from at end) ⌝ }
 {
     let mut i = at;
@@ -95,55 +95,86 @@ pub fn read_var_uint(s: &[u8], at: usize, end: usize) -> VarUInt
     read_groups(s, at, at, end, 0, VAR_UINT_CUT)
 }
 
-// Reads a VarUInt of three bytes at most: most lengths and field IDs have no more.
-pub fn short_var_uint(s: &[u8], at: usize, end: usize) -> ShortVarUInt
-    ensures { λ r. ⌜ shortRead r ≡ shortOf at (varUInt (now (s .entry)) at end) ⌝ }
+// The first bytes of a VarUInt, three at most.
+enum FirstBytes {
+    // They are all of it: what it is worth, and where it ends.
+    All { value: usize, next: usize },
+    // None of them is its last: what they are worth, and where it goes on.
+    More { value: usize, next: usize },
+    // No part of the slice is asked for.
+    Outside,
+}
+
+// Reads the first bytes of a VarUInt, three at most.
+fn read_first(s: &[u8], at: usize, end: usize) -> FirstBytes
+    ensures { λ r. ⌜ Begins (now (s .entry)) at end r ⌝ }
 {
     if s.len() < end {
-        return ShortVarUInt::Other;
+        return FirstBytes::Outside;
     }
     if end <= at {
-        return ShortVarUInt::Other;
+        if at == end {
+            return FirstBytes::More { value: 0, next: at };
+        }
+        return FirstBytes::Outside;
     }
     let first = wide(s[at]);
     let after = at + 1;
     if 128 <= first {
-        return ShortVarUInt::Value {
+        return FirstBytes::All {
             value: first % 128,
             next: after,
         };
     }
     if end <= after {
-        return ShortVarUInt::Other;
+        return FirstBytes::More {
+            value: first,
+            next: after,
+        };
     }
     let second = wide(s[after]);
     let past = after + 1;
     let two = first * 128 + second % 128;
     if 128 <= second {
-        return ShortVarUInt::Value {
+        return FirstBytes::All {
             value: two,
             next: past,
         };
     }
     if end <= past {
-        return ShortVarUInt::Other;
+        return FirstBytes::More {
+            value: two,
+            next: past,
+        };
     }
     let third = wide(s[past]);
-    if third < 128 {
-        return ShortVarUInt::Other;
-    }
     let next = past + 1;
     let three = two * 128 + third % 128;
-    ShortVarUInt::Value { value: three, next }
+    if 128 <= third {
+        return FirstBytes::All { value: three, next };
+    }
+    FirstBytes::More { value: three, next }
+}
+
+// Reads a VarUInt of three bytes at most: most lengths and field IDs have no more.
+pub fn short_var_uint(s: &[u8], at: usize, end: usize) -> ShortVarUInt
+    ensures { λ r. ⌜ shortRead r ≡ shortOf at (varUInt (now (s .entry)) at end) ⌝ }
+{
+    match read_first(s, at, end) {
+        FirstBytes::All { value, next } => ShortVarUInt::Value { value, next },
+        FirstBytes::More { value: _, next: _ } => ShortVarUInt::Other,
+        FirstBytes::Outside => ShortVarUInt::Other,
+    }
 }
 
 // Reads a VarUInt as `read_var_uint` does, a short one in place.
 pub fn next_var_uint(s: &[u8], at: usize, end: usize) -> VarUInt
     ensures { λ r. ⌜ varUIntRead r ≡ varUInt (now (s .entry)) at end ⌝ }
 {
-    match short_var_uint(s, at, end) {
-        ShortVarUInt::Value { value, next } => VarUInt::Value { value, next },
-        ShortVarUInt::Other => read_var_uint(s, at, end),
+    match read_first(s, at, end) {
+        FirstBytes::All { value, next } => VarUInt::Value { value, next },
+        FirstBytes::More { value, next } => read_groups(s, at, next, end, value, VAR_UINT_CUT),
+        FirstBytes::Outside => refused(OUTSIDE, 0),
     }
 }
 

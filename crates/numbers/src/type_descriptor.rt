@@ -2,7 +2,7 @@
 ghost use mathlib.Core.Path.{_≡_};
 ghost use Prim.Native.Nat.{_/_, _%_};
 ghost use Rattle.numbers.specs.Descriptor.{descriptorOf, kindOf};
-ghost use Rattle.numbers.specs.Packed.{packedOf, numberedKind};
+ghost use Rattle.numbers.specs.Private.Packed.{packedOf, numberedKind};
 
 // What a descriptor byte begins.
 pub enum Kind {

@@ -8,7 +8,7 @@ use Rattle.numbers.specs.Descriptor.{kindOf, descriptorOf}
 use Rattle.framing.specs.Answers.{begun, lengthAt, valueCode, badFloat, shortTimestamp, emptyOrdered, lengthTests, valueLength, fitting, plainValue, padded, padAt, wrapperTests, annotationsAt, wrapperAt, innerValue, wrapped, unwrapped, annotatedValue, valueAt, frameAt, readValue, readFrame, readAnnotation}
 use Rattle.stepping.specs.Answers.{markerAt, framedAt, namedAt, fieldAt, tileAt, walk, found}
 use Rattle.stepping.specs.Scalars.{valueIn, isContainer, opened, stepIn, positiveOf, negativeOf, typedOf, scalarOf, readScalar}
-use Rattle.stepping.specs.Magnitude.{nonzeroAmong, significantFrom}
+use Rattle.bodies.specs.Magnitude.{nonzeroAmong, significantFrom}
 use Rattle.stepping.specs.Edges.{Edges}
 
 pub edges : Edges

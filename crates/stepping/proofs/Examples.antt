@@ -1,17 +1,18 @@
 -- Worked examples of runs: what several calls answer, each call with the cursor that the one before left, as one list that the definitions compute; and the
--- pads passed and the eight words. Bytes are hexadecimal in the comments.
+-- pads passed. Bytes are hexadecimal in the comments.
 -- Assumes nothing.
 use Prim.Native.Nat.{ℕ, zero, suc}
 use mathlib.Core.Path.{_≡_, refl}
-use mathlib.Core.List.{List, [], _∷_, map}
+use mathlib.Core.List.{List, [], _∷_}
 use Rattle.numbers.specs.Format.{ofDigits, varUIntOf}
 use Rattle.numbers.specs.Outcome.{gives, refuses, outsideOf}
 use Rattle.numbers.specs.Answers.{lastAmong, lastByte, varNumber, varUInt}
 use Rattle.numbers.specs.Descriptor.{kindOf, descriptorOf}
-use Rattle.framing.specs.Answers.{Spans, begun, lengthAt, valueCode, badFloat, shortTimestamp, emptyOrdered, lengthTests, valueLength, fitting, plainValue, padded, padAt, valueAt, frameAt, readFrame}
-use Rattle.stepping.specs.Answers.{finish, marker, value, field, markerAt, framedAt, namedAt, fieldAt, tileAt, Pad, walk, found, Stepped, stepOf}
+use Rattle.framing.specs.Spans.{Spans}
+use Rattle.framing.specs.Answers.{begun, lengthAt, valueCode, badFloat, shortTimestamp, emptyOrdered, lengthTests, valueLength, fitting, plainValue, padded, padAt, valueAt, frameAt, readFrame}
+use Rattle.stepping.specs.Items.{finish, marker, value, field, Pad}
+use Rattle.stepping.specs.Answers.{markerAt, framedAt, namedAt, fieldAt, tileAt, walk, found, Stepped, stepOf}
 use Rattle.stepping.specs.Runs.{cursor, Answers, Run, none, call, Tiles}
-use Rattle.stepping.specs.Words.{words}
 use Rattle.stepping.specs.declared.cursor.Cursor.{Cursor}
 use Rattle.stepping.specs.declared.cursor.Rules.{Rules}
 use Rattle.stepping.specs.declared.cursor.Rules.the-variants.{Stream, Sequence, Fields}
@@ -31,12 +32,8 @@ unfolding calls
 calls-run zero rules s c = none
 calls-run (suc n) rules s c = call refl (calls-run n rules s (stepOf rules s c .next))
 
--- the eight words of an answer
-abbrev wordsOf : Stepped → List ℕ
-wordsOf r = words (r .answer)
-
 -- a pad, a marker and a list: 00 E0 01 00 EA B1 20
-abbrev marked : List ℕ
+abbrev pub marked : List ℕ
 marked = 0 ∷ 224 ∷ 1 ∷ 0 ∷ 234 ∷ 177 ∷ 32 ∷ []
 
 pub marked-run :
@@ -49,12 +46,6 @@ pub marked-run :
 unfolding calls stepOf found walk tileAt markerAt framedAt readFrame begun frameAt padAt padded valueAt plainValue valueLength lengthAt lengthTests valueCode badFloat shortTimestamp emptyOrdered fitting descriptorOf kindOf outsideOf
 marked-run = refl
 
-pub marked-words :
-    map wordsOf (calls 3 Stream marked (cursor 0 7))
-    ≡ (1 ∷ 224 ∷ 1 ∷ 1 ∷ 0 ∷ 5 ∷ 5 ∷ 0 ∷ []) ∷ (2 ∷ 177 ∷ 5 ∷ 5 ∷ 5 ∷ 6 ∷ 7 ∷ 0 ∷ []) ∷ (0 ∷ 0 ∷ 7 ∷ 0 ∷ 0 ∷ 0 ∷ 0 ∷ 0 ∷ []) ∷ []
-unfolding calls stepOf found walk tileAt markerAt framedAt readFrame begun frameAt padAt padded valueAt plainValue valueLength lengthAt lengthTests valueCode badFloat shortTimestamp emptyOrdered fitting descriptorOf kindOf outsideOf
-marked-words = refl
-
 -- what these calls hand out tiles the part, with the pad before the marker
 pub marked-tiled :
     Tiles Stream marked 7 0 (marker 1 1 0 5 ∷ value (record { byte = 177; start = 5; annotations = 5; descriptor = 5; body = 6; end = 7 }) ∷ []) 7
@@ -62,7 +53,7 @@ unfolding calls stepOf found walk tileAt markerAt framedAt readFrame begun frame
 marked-tiled = tiling Stream marked 0 7 (calls 4 Stream marked (cursor 0 7)) (calls-run 4 Stream marked (cursor 0 7)) .upToLast
 
 -- a struct, D5 84 00 85 21 07, and its body: the pad at 1..3 with its field ID, field 5 at 3..6, the end
-abbrev padded-struct : List ℕ
+abbrev pub padded-struct : List ℕ
 padded-struct = 213 ∷ 132 ∷ 0 ∷ 133 ∷ 33 ∷ 7 ∷ []
 
 pub struct-run :
@@ -78,12 +69,8 @@ pub struct-pads : found Fields padded-struct (cursor 1 6) .pads ≡ record { sta
 unfolding found walk tileAt fieldAt namedAt varUInt varNumber lastByte lastAmong varUIntOf ofDigits readFrame begun frameAt padAt padded valueAt plainValue valueLength lengthAt lengthTests valueCode badFloat shortTimestamp emptyOrdered fitting descriptorOf kindOf outsideOf
 struct-pads = refl
 
-pub struct-words : map wordsOf (calls 1 Fields padded-struct (cursor 1 6)) ≡ (3 ∷ 33 ∷ 3 ∷ 4 ∷ 4 ∷ 5 ∷ 6 ∷ 5 ∷ []) ∷ []
-unfolding calls stepOf found walk tileAt fieldAt namedAt varUInt varNumber lastByte lastAmong varUIntOf ofDigits readFrame begun frameAt padAt padded valueAt plainValue valueLength lengthAt lengthTests valueCode badFloat shortTimestamp emptyOrdered fitting descriptorOf kindOf outsideOf
-struct-words = refl
-
 -- a list, B2 00 E0, and its body: the pad is not passed where E0 after it is refused, and the refusal repeats
-abbrev refused-list : List ℕ
+abbrev pub refused-list : List ℕ
 refused-list = 178 ∷ 0 ∷ 224 ∷ []
 
 pub refused-run :
@@ -94,7 +81,3 @@ pub refused-run :
     ∷ []
 unfolding calls stepOf found walk tileAt framedAt readFrame begun frameAt padAt padded valueAt plainValue lengthAt descriptorOf kindOf outsideOf
 refused-run = refl
-
-pub refused-words : map wordsOf (calls 1 Sequence refused-list (cursor 1 3)) ≡ (9 ∷ 22 ∷ 2 ∷ 0 ∷ 0 ∷ 0 ∷ 0 ∷ 0 ∷ []) ∷ []
-unfolding calls stepOf found walk tileAt framedAt readFrame begun frameAt padAt padded valueAt plainValue lengthAt descriptorOf kindOf outsideOf
-refused-words = refl

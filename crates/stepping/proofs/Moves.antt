@@ -8,8 +8,9 @@ use mathlib.Core.List.{List}
 use lib.ListN.{length}
 use Rattle.numbers.specs.Outcome.{Outcome, gives, refuses}
 use Rattle.numbers.proofs.Outcomes.{Proper, other, inside}
-use Rattle.framing.specs.Answers.{Spans}
-use Rattle.stepping.specs.Answers.{Item, finish, walk, Found, found, stepOf}
+use Rattle.framing.specs.Spans.{Spans}
+use Rattle.stepping.specs.Items.{Item, finish}
+use Rattle.stepping.specs.Answers.{walk, Found, found, stepOf}
 use Rattle.stepping.specs.Runs.{cursor}
 use Rattle.stepping.specs.declared.cursor.Rules.{Rules}
 use Rattle.stepping.proofs.Places.{ValueIn, ItemIn, a-marker, a-value, a-field, pad-ends, item-in, tile-proper}

@@ -1,19 +1,29 @@
--- A tile is what the rules want before a frame, and then the frame, by each of the rules.
+-- A tile is a name and what stands behind it, by each of the rules; and so a step that is entered behind a name that was read is the step.
 -- Assumes nothing.
-use Prim.Native.Nat.{ℕ, _+_, _≤_, _<_}
+use Prim.Native.Nat.{ℕ, suc, _+_, _-_, _≤_, _<_}
+use native.Mathlib.Omega.{arith}
+use borrow.Author.Tests.{ltb-true, ltb-false, lt-ltb, le-ltb}
 use mathlib.Core.Path.{_≡_, refl, _∙_, sym, ap}
-use mathlib.Core.Bool.{Bool, true, false}
+use mathlib.Core.Bool.{true, false, not}
 use mathlib.Core.List.{List}
-use lib.ListN.{getD}
-use lib.Dec.{eqb}
-use Rattle.numbers.specs.Outcome.{Outcome, gives, pick, andThen}
+use lib.ListN.{length, getD}
+use lib.Dec.{ltb, eqb}
+use Rattle.numbers.specs.Outcome.{Outcome, gives, refuses, pick, andThen, outsideOf}
 use Rattle.numbers.specs.Answers.{Unsigned, varUInt}
-use Rattle.numbers.proofs.Outcomes.{refuse-same, refuse-first, then-then, then-like}
-use Rattle.framing.specs.Answers.{Spans, Frame, padding, valued, readFrame}
-use Rattle.stepping.specs.Answers.{Item, value, Tile, hand, markerAt, asTile, framedAt, asField, namedAt, fieldAt, tileAt}
-use Rattle.stepping.specs.Private.{followed, fieldId, nameAt, itemBy, tileBy, namedTile, isMarker}
+use Rattle.numbers.proofs.Outcomes.{by-case, by-test, inside, inside-order, inside-end, refuse-same, refuse-first, then-then, then-like, Each, given, each-refuse, each-pick, each-then, each-of}
+use Rattle.numbers.proofs.Meaning.{var-uint-bounded}
+use Rattle.framing.specs.Spans.{Spans}
+use Rattle.framing.specs.Answers.{Frame, padding, valued, readFrame}
+use Rattle.framing.proofs.Bounds.{FrameIn, pad-in, value-in, frame-each}
+use Rattle.stepping.specs.Items.{Item, finish, value}
+use Rattle.stepping.specs.Answers.{Tile, skip, hand, markerAt, asTile, framedAt, asField, namedAt, fieldAt, tileAt, Found, stop, onTile, walk, found, stepOf, answerAt}
+use Rattle.stepping.specs.Names.{followed, fieldId, nameAt, nameFrom, itemBy, tileBy, tileBehind, isMarker, tileFrom, foundFrom, answerFrom}
+use Rattle.stepping.specs.Private.Tiles.{handed}
 use Rattle.stepping.specs.declared.cursor.Rules.{Rules}
 use Rattle.stepping.specs.declared.cursor.Rules.the-variants.{Stream, Sequence, Fields}
+use Rattle.stepping.proofs.Walking.{walks, of-walks}
+
+-- ---- a tile
 
 -- a frame's tile where the rules want nothing before it
 by-itself : (rules : Rules) (at : ℕ) → ((v : Spans) → value v ≡ itemBy rules at 0 v) → (f : Frame) → asTile f ≡ tileBy rules at 0 f
@@ -25,11 +35,11 @@ by-fields at id (padding p) = refl
 by-fields at id (valued v) = refl
 
 module _ (s : List ℕ) (at end : ℕ) where
-  named-field : (u : Unsigned) → namedAt s at end u ≡ andThen (followed end u) (namedTile Fields s at end)
-  unfolding namedAt followed namedTile
+  named-field : (u : Unsigned) → namedAt s at end u ≡ andThen (followed end u) (tileBehind Fields s at end)
+  unfolding namedAt followed tileBehind
   named-field u =
       refuse-same (eqb (u .next) end) 7 end (λ _. then-like (readFrame s (u .next) end) (by-fields at (u .value)))
-      ∙ sym (refuse-first (eqb (u .next) end) 7 end (gives u) (namedTile Fields s at end))
+      ∙ sym (refuse-first (eqb (u .next) end) 7 end (gives u) (tileBehind Fields s at end))
 
   -- what stands where no marker begins
   unnamed : (rules : Rules) → Outcome Tile
@@ -37,12 +47,12 @@ module _ (s : List ℕ) (at end : ℕ) where
   unnamed Sequence = framedAt s at end
   unnamed Fields = fieldAt s at end
 
-  named : (rules : Rules) → unnamed rules ≡ andThen (nameAt rules s at end) (namedTile rules s at end)
-  unfolding unnamed framedAt fieldAt fieldId namedTile
+  named : (rules : Rules) → unnamed rules ≡ andThen (nameAt rules s at end) (tileBehind rules s at end)
+  unfolding unnamed framedAt fieldAt fieldId tileBehind
   named Stream = then-like (readFrame s at end) (by-itself Stream at (λ v. refl))
   named Sequence = then-like (readFrame s at end) (by-itself Sequence at (λ v. refl))
   named Fields =
-      then-like (varUInt s at end) named-field ∙ sym (then-then (varUInt s at end) (followed end) (namedTile Fields s at end))
+      then-like (varUInt s at end) named-field ∙ sym (then-then (varUInt s at end) (followed end) (tileBehind Fields s at end))
 
   by-marker : (rules : Rules) → tileAt rules s at end ≡ pick (isMarker rules (getD s at 0)) (markerAt s at end) (unnamed rules)
   unfolding tileAt unnamed
@@ -50,9 +60,140 @@ module _ (s : List ℕ) (at end : ℕ) where
   by-marker Sequence = refl
   by-marker Fields = refl
 
-  pub tile-marked : (rules : Rules) → isMarker rules (getD s at 0) ≡ true → tileAt rules s at end ≡ markerAt s at end
-  tile-marked rules e = by-marker rules ∙ (rw e)
-
-  pub tile-named : (rules : Rules) → isMarker rules (getD s at 0) ≡ false → tileAt rules s at end ≡ andThen (nameAt rules s at end) (namedTile rules s at end)
+  pub tile-named : (rules : Rules) → isMarker rules (getD s at 0) ≡ false → tileAt rules s at end ≡ andThen (nameAt rules s at end) (tileBehind rules s at end)
   tile-named rules e =
       let chosen : tileAt rules s at end ≡ unnamed rules = by-marker rules ∙ (rw e) in chosen ∙ named rules
+
+  pub tile-from : (rules : Rules) (u : Unsigned) → nameFrom rules s at end u ≡ nameAt rules s at end → tileFrom rules s at end u ≡ tileAt rules s at end
+  unfolding tileFrom
+  tile-from rules u e =
+      let q : andThen (nameFrom rules s at end u) (tileBehind rules s at end) ≡ unnamed rules = (rw e) ∙ sym (named rules) in
+      (rw q) ∙ sym (by-marker rules)
+
+-- ---- a name that was read, and one that was not
+
+pub name-read : (rules : Rules) (s : List ℕ) (at end : ℕ) (u : Unsigned) → nameAt rules s at end ≡ gives u → nameFrom rules s at end u ≡ nameAt rules s at end
+unfolding nameFrom
+name-read rules s at end u e = by-test (λ (o : Outcome Unsigned). o ≡ nameAt rules s at end) (ltb at (u .next)) (λ _. sym e) (λ _. refl)
+
+pub name-unread : (rules : Rules) (s : List ℕ) (at end : ℕ) (u : Unsigned) → u .next ≤ at → nameFrom rules s at end u ≡ nameAt rules s at end
+unfolding nameFrom
+name-unread rules s at end u h = rw (le-ltb at (u .next) h)
+
+-- ---- a pad ends in the part, past the position
+
+data Onward (at end : ℕ) : Tile → Type 0 where
+  skips : {b e : ℕ} → at < e → e ≤ end → Onward at end (skip b e)
+  hands : {i : Item} → Onward at end (hand i)
+
+record Reaches (at : ℕ) (u : Unsigned) : Type 0 where
+  reaches : at ≤ u .next
+
+name-each : (rules : Rules) (s : List ℕ) (at end : ℕ) → Each (Reaches at) (nameAt rules s at end)
+unfolding fieldId followed
+name-each Stream s at end = given {a = record { value = 0; next = at }} (record { reaches = omega arith })
+name-each Sequence s at end = given {a = record { value = 0; next = at }} (record { reaches = omega arith })
+name-each Fields s at end =
+    each-then (var-uint-bounded s at end) (λ u b.
+    each-refuse (eqb (u .next) end) 7 end (λ _. given {a = u} (record { reaches = omega (arith, b .begins) })))
+
+name-from-each : (rules : Rules) (s : List ℕ) (at end : ℕ) (u : Unsigned) → Each (Reaches at) (nameFrom rules s at end u)
+unfolding nameFrom
+name-from-each rules s at end u =
+    each-pick (ltb at (u .next)) (λ t. given {a = u} (record { reaches = omega (arith, ltb-true at (u .next) t) })) (λ _. name-each rules s at end)
+
+framed-onward : (rules : Rules) (at next end id : ℕ) → at ≤ next → {f : Frame} → FrameIn next end f → Each (Onward at end) (tileBy rules at id f)
+framed-onward rules at next end id h (pad-in {p} q) = given (skips {e = p .end} (omega (arith, q .bodied, q .ended)) (q .within))
+framed-onward rules at next end id h (value-in {v} o) = given hands
+
+marked-onward : (s : List ℕ) (at end : ℕ) → Each (Onward at end) (markerAt s at end)
+unfolding markerAt
+marked-onward s at end = each-refuse (ltb (end - at) 4) 2 at (λ _. each-refuse (not (eqb (getD s (at + 3) 0) 234)) 21 at (λ _. given hands))
+
+tile-onward : (rules : Rules) (s : List ℕ) (at end : ℕ) (u : Unsigned) → Each (Onward at end) (tileFrom rules s at end u)
+unfolding tileFrom tileBehind
+tile-onward rules s at end u =
+    each-pick (isMarker rules (getD s at 0)) (λ _. marked-onward s at end) (λ _.
+    each-then (name-from-each rules s at end u) (λ w r.
+    each-then (frame-each s (w .next) end) (λ f i. framed-onward rules at (w .next) end (w .value) (r .reaches) i)))
+
+skips-on : {at end b e : ℕ} → Onward at end (skip b e) → (at < e) × (e ≤ end)
+skips-on (skips p q) = (p, q)
+
+pub pad-onward : (rules : Rules) (s : List ℕ) (at end : ℕ) (u : Unsigned) {b e : ℕ} → tileFrom rules s at end u ≡ gives (skip b e) → (at < e) × (e ≤ end)
+pad-onward rules s at end u q = skips-on (each-of (tile-onward rules s at end u) q)
+
+-- ---- a step that is entered behind a name
+
+-- with more fuel than a part's length a step passes the pads as it does
+walk-found : (rules : Rules) (s : List ℕ) (k at end : ℕ) → at ≤ end → end ≤ length s → end - at ≤ k → walk k rules s end at ≡ found rules s (record { at = at; end = end })
+walk-found rules s k at end l m f = of-walks rules s end l m (walks rules s end k at l f)
+
+module _ (rules : Rules) (s : List ℕ) (at end : ℕ) (u : Unsigned) where
+  from-outside : outsideOf s at end ≡ true → foundFrom rules s at end u ≡ found rules s (record { at = at; end = end })
+  unfolding foundFrom found
+  from-outside o = rw o
+
+  from-tile : outsideOf s at end ≡ false → at < end → nameFrom rules s at end u ≡ nameAt rules s at end → foundFrom rules s at end u ≡ walk (suc (end - at)) rules s end at
+  unfolding foundFrom walk
+  from-tile o l e = rw (o, lt-ltb at end l, tile-from s at end rules u e)
+
+  from-end : outsideOf s at end ≡ false → end ≤ at → foundFrom rules s at end u ≡ walk (suc (end - at)) rules s end at
+  unfolding foundFrom walk
+  from-end o h = rw (o, le-ltb at end h)
+
+  -- it is the step, where the name that was read is the name
+  pub found-from : (at < end → nameFrom rules s at end u ≡ nameAt rules s at end) → foundFrom rules s at end u ≡ found rules s (record { at = at; end = end })
+  found-from name = by-case (outsideOf s at end) from-outside (λ o. within o ∙ walk-found rules s (suc (end - at)) at end (inside-order s at end o) (inside-end s at end o) (omega arith))
+    where
+      within : outsideOf s at end ≡ false → foundFrom rules s at end u ≡ walk (suc (end - at)) rules s end at
+      within o =
+          by-case (ltb at end) (λ t. from-tile o (ltb-true at end t) (name (ltb-true at end t))) (λ t. from-end o (ltb-false at end t))
+
+  pub answer-from : (at < end → nameFrom rules s at end u ≡ nameAt rules s at end) → answerFrom rules s at end u ≡ answerAt rules s at end
+  unfolding stepOf
+  answer-from name = ap (λ (f : Found). f .answer) (found-from name)
+
+-- a step of whose name nothing is read
+pub answer-unread : (rules : Rules) (s : List ℕ) (at end id : ℕ) → answerFrom rules s at end (record { value = id; next = at }) ≡ answerAt rules s at end
+answer-unread rules s at end id =
+    answer-from rules s at end (record { value = id; next = at }) (λ _. name-unread rules s at end (record { value = id; next = at }) (omega arith))
+
+-- what it answers where a tile stands that is no pad, behind a pad, outside the slice, and at the part's end
+module _ (rules : Rules) (s : List ℕ) (at end : ℕ) (u : Unsigned) (l : at < end) (m : end ≤ length s) where
+  entered : foundFrom rules s at end u ≡ onTile at (walk (end - at) rules s end) (tileFrom rules s at end u)
+  unfolding foundFrom
+  entered = rw (inside s at end (omega arith) m, lt-ltb at end l)
+
+  on-item : (o : Outcome Item) → onTile at (walk (end - at) rules s end) (andThen o handed) .answer ≡ o
+  on-item (gives i) = refl
+  on-item (refuses n p) = refl
+
+  pub from-item : (o : Outcome Item) → andThen o handed ≡ tileFrom rules s at end u → o ≡ answerFrom rules s at end u
+  from-item o h =
+      sym (on-item o)
+      ∙ ap (λ (t : Outcome Tile). onTile at (walk (end - at) rules s end) t .answer) h
+      ∙ sym (ap (λ (f : Found). f .answer) entered)
+
+  pub from-pad : (id b e : ℕ) → tileFrom rules s at end u ≡ gives (skip b e) → answerFrom rules s e end (record { value = id; next = e }) ≡ answerFrom rules s at end u
+  unfolding stepOf
+  from-pad id b e h =
+      let p = pad-onward rules s at end u h in
+      answer-unread rules s e end id
+      ∙ sym (ap (λ (f : Found). f .answer) (walk-found rules s (end - at) e end (p .1) m (omega (arith, p .0))))
+      ∙ sym (ap (λ (t : Outcome Tile). onTile at (walk (end - at) rules s end) t .answer) h)
+      ∙ sym (ap (λ (f : Found). f .answer) entered)
+
+outside-stop : (rules : Rules) (s : List ℕ) (at end : ℕ) (u : Unsigned) → outsideOf s at end ≡ true → foundFrom rules s at end u ≡ stop (refuses 50 0)
+unfolding foundFrom
+outside-stop rules s at end u o = rw o
+
+pub from-nowhere : (rules : Rules) (s : List ℕ) (at end : ℕ) (u : Unsigned) → outsideOf s at end ≡ true → refuses 50 0 ≡ answerFrom rules s at end u
+from-nowhere rules s at end u o = sym (ap (λ (f : Found). f .answer) (outside-stop rules s at end u o))
+
+from-stop : (rules : Rules) (s : List ℕ) (end : ℕ) (u : Unsigned) → end ≤ length s → foundFrom rules s end end u ≡ stop (gives (finish end))
+unfolding foundFrom
+from-stop rules s end u m = rw (inside s end end (omega arith) m, le-ltb end end (omega arith))
+
+pub from-part-end : (rules : Rules) (s : List ℕ) (end : ℕ) (u : Unsigned) → end ≤ length s → gives (finish end) ≡ answerFrom rules s end end u
+from-part-end rules s end u m = sym (ap (λ (f : Found). f .answer) (from-stop rules s end u m))

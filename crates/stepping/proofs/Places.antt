@@ -11,10 +11,12 @@ use lib.Dec.{ltb, eqb}
 use Rattle.numbers.specs.Outcome.{gives}
 use Rattle.numbers.proofs.Outcomes.{Each, given, each-refuse, each-pick, each-then, each-of, Proper, gave, proper-refuse, proper-pick, proper-then}
 use Rattle.numbers.proofs.Meaning.{Bounded, var-uint-bounded, var-uint-proper}
-use Rattle.framing.specs.Answers.{Frame, padding, valued, Spans}
+use Rattle.framing.specs.Answers.{Frame, padding, valued}
+use Rattle.framing.specs.Spans.{Spans}
 use Rattle.framing.proofs.Bounds.{FrameIn, pad-in, value-in, frame-each, PaddedAt, Ordered}
 use Rattle.framing.proofs.Refusing.{frame-proper}
-use Rattle.stepping.specs.Answers.{Item, marker, value, field, itemEnd, Tile, skip, hand, markerAt, framedAt, asTile, namedAt, asField, fieldAt, tileAt}
+use Rattle.stepping.specs.Items.{Item, marker, value, field, itemEnd}
+use Rattle.stepping.specs.Answers.{Tile, skip, hand, markerAt, framedAt, asTile, namedAt, asField, fieldAt, tileAt}
 use Rattle.stepping.specs.declared.cursor.Rules.{Rules}
 use Rattle.stepping.specs.declared.cursor.Rules.the-variants.{Stream, Sequence, Fields}
 

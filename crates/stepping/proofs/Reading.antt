@@ -9,13 +9,14 @@ use lib.ListN.{length, getD}
 use lib.Dec.{ltb, eqb}
 use Rattle.numbers.specs.Outcome.{Outcome, gives, refuses, pick}
 use Rattle.numbers.proofs.Outcomes.{Each, given, each-refuse, each-pick, each-then, each-map, refused}
-use Rattle.framing.specs.Answers.{Spans, begun, valueAt, readValue}
+use Rattle.framing.specs.Spans.{Spans}
+use Rattle.framing.specs.Answers.{begun, valueAt, readValue}
 use Rattle.framing.proofs.Bounds.{BegunAt, begun-each, Ordered, read-value-each, value-each}
 use Rattle.stepping.specs.Scalars.{valueIn, typeOf, codeOf, Scalar, null, bool, int, float, decimal, timestamp, symbol, string, clob, blob, container, nullOf, boolOf, positiveOf, negativeOf, floatOf, symbolOf, stringOf, typedOf, scalarOf, readScalar, spanOf}
-use Rattle.stepping.specs.Utf8.{utf8}
-use Rattle.stepping.specs.Magnitude.{significantFrom}
+use Rattle.bodies.specs.Utf8.{utf8}
+use Rattle.bodies.specs.Magnitude.{significantFrom}
 use Rattle.stepping.specs.declared.value.Span.{Span}
-use Rattle.stepping.proofs.Leading.{Begins, significant-begins}
+use Rattle.bodies.proofs.Leading.{Begins, significant-begins}
 
 pub record InSlice (s : List ℕ) (v : Spans) : Type 0 where
   pub order : v .body ≤ v .end

@@ -8,17 +8,19 @@ use mathlib.Core.Bool.{not}
 use mathlib.Core.List.{List}
 use lib.ListN.{length, getD}
 use lib.Dec.{ltb, eqb}
-use Rattle.numbers.specs.Format.{varUIntOf}
-use Rattle.numbers.specs.Outcome.{gives, part}
+use Rattle.numbers.specs.Format.{varUIntOf, NumberAt}
+use Rattle.numbers.specs.Outcome.{gives}
+use Rattle.numbers.specs.Bytes.{part}
 use Rattle.numbers.specs.Answers.{Unsigned, unsigned}
-use Rattle.numbers.specs.Meaning.{NumberAt}
 use Rattle.numbers.proofs.Outcomes.{Each, given, each-refuse, each-pick, each-then, each-of}
 use Rattle.numbers.proofs.Meaning.{ReadAt, var-uint-each}
-use Rattle.framing.specs.Answers.{Frame, Spans}
+use Rattle.framing.specs.Answers.{Frame}
+use Rattle.framing.specs.Spans.{Spans}
 use Rattle.framing.specs.Format.{ValueBytes}
 use Rattle.framing.proofs.Looked.{FrameIs, pad-is, value-is, frame-is}
 use Rattle.framing.proofs.Told.{values-told, pads-told}
-use Rattle.stepping.specs.Answers.{Item, value, field, Tile, skip, hand, markerAt, framedAt, asTile, namedAt, asField, fieldAt, tileAt}
+use Rattle.stepping.specs.Items.{Item, value, field}
+use Rattle.stepping.specs.Answers.{Tile, skip, hand, markerAt, framedAt, asTile, namedAt, asField, fieldAt, tileAt}
 use Rattle.stepping.specs.Format.{Named, in-stream, in-sequence, in-fields, PadAt, ItemAt, marker-at, value-in-stream, value-in-sequence, field-at}
 use Rattle.stepping.specs.declared.cursor.Rules.{Rules}
 use Rattle.stepping.specs.declared.cursor.Rules.the-variants.{Stream, Sequence, Fields}

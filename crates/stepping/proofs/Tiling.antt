@@ -7,7 +7,8 @@ use mathlib.Core.Logic.{_⊎_, inl, inr, ⊎-elim}
 use mathlib.Core.List.{List, [], _∷_, List·Memᴰ, List·Memᴰ·cases-cons}
 use lib.ListN.{length}
 use Rattle.numbers.specs.Outcome.{Outcome, gives, refuses}
-use Rattle.stepping.specs.Answers.{Item, finish, marker, value, field, itemEnd, Pad, Found, found, after, Stepped, stepOf, tileAt, skip}
+use Rattle.stepping.specs.Items.{Item, finish, marker, value, field, itemEnd, Pad}
+use Rattle.stepping.specs.Answers.{Found, found, after, Stepped, stepOf, tileAt, skip}
 use Rattle.stepping.specs.Format.{PadAt, ItemAt, marker-at, value-in-stream, value-in-sequence, field-at}
 use Rattle.stepping.specs.Runs.{cursor, Answers, Run, none, call, handedOut, items, lastEnd, Tiles, empty, pad, item, Tiled}
 use Rattle.stepping.specs.Theorems.{Tiling, RunsExist}

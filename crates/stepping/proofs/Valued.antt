@@ -12,12 +12,14 @@ use Rattle.numbers.specs.Outcome.{Outcome, gives, refuses, andThen, outsideOf}
 use Rattle.numbers.specs.Descriptor.{descriptorOf}
 use Rattle.numbers.specs.declared.type_descriptor.TypeDescriptor.{TypeDescriptor}
 use Rattle.numbers.proofs.Outcomes.{inside, then-same, then-then, then-like}
-use Rattle.framing.specs.Answers.{begun, isPad, Spans, Frame, valueAt, plainValue, asValued, frameAt, readValue, readFrame}
+use Rattle.framing.specs.Answers.{begun, isPad, Frame, valueAt, plainValue, asValued, frameAt, readValue, readFrame}
+use Rattle.framing.specs.Spans.{Spans}
 use Rattle.framing.proofs.Bounds.{BegunAt, begun-each}
 use Rattle.framing.proofs.Nibbles.{PadByte, pad-byte, no-pad-byte}
-use Rattle.stepping.specs.Answers.{Item, value, Tile, hand, asTile, framedAt, tileAt, Found, stop, stepOf}
-use Rattle.stepping.specs.Read.{handed}
-use Rattle.stepping.specs.Private.{valueFrom}
+use Rattle.stepping.specs.Items.{Item, value}
+use Rattle.stepping.specs.Answers.{Tile, hand, asTile, framedAt, tileAt, Found, stop, stepOf}
+use Rattle.stepping.specs.Private.Tiles.{handed}
+use Rattle.stepping.specs.Private.Values.{valueFrom}
 use Rattle.stepping.specs.declared.cursor.Rules.the-variants.{Sequence}
 use Rattle.stepping.proofs.Walking.{answered, answer-is}
 

@@ -11,8 +11,9 @@ use lib.ListN.{length}
 use lib.Dec.{ltb}
 use Rattle.numbers.specs.Outcome.{Outcome, gives, refuses, pick, andThen, outsideOf}
 use Rattle.numbers.proofs.Outcomes.{by-test, inside, inside-order, inside-end}
-use Rattle.stepping.specs.Answers.{Item, finish, itemEnd, Tile, skip, hand, tileAt, Pad, Found, passing, stop, onTile, walk, found, Stepped, after, stepOf}
-use Rattle.stepping.specs.Read.{handed}
+use Rattle.stepping.specs.Items.{Item, finish, itemEnd, Pad}
+use Rattle.stepping.specs.Answers.{Tile, skip, hand, tileAt, Found, passing, stop, onTile, walk, found, Stepped, after, stepOf}
+use Rattle.stepping.specs.Private.Tiles.{handed}
 use Rattle.stepping.specs.declared.cursor.Cursor.{Cursor}
 use Rattle.stepping.specs.declared.cursor.Rules.{Rules}
 use Rattle.stepping.proofs.Places.{pad-ends}

@@ -1,43 +1,34 @@
 -- The scope paper's "Stream item" and "Body steps": what a step on a part answers, and the pads that it passes on the way.
 -- Assumes nothing.
 use Prim.Native.Nat.{ℕ, zero, suc, _+_, _-_}
-use mathlib.Core.Bool.{Bool, not}
+use mathlib.Core.Bool.{Bool, true, not}
 use mathlib.Core.List.{List, [], _∷_}
 use lib.ListN.{getD}
 use lib.Dec.{ltb, eqb}
 use Rattle.numbers.specs.Outcome.{Outcome, gives, refuses, pick, refuseIf, andThen, outsideOf}
 use Rattle.numbers.specs.Answers.{Unsigned, varUInt}
-use Rattle.framing.specs.Answers.{Spans, Frame, padding, valued, readFrame}
+use Rattle.framing.specs.Answers.{Frame, padding, valued, readFrame}
+use Rattle.stepping.specs.Items.{Item, finish, marker, value, field, itemEnd, Pad}
 use Rattle.stepping.specs.declared.cursor.Cursor.{Cursor}
 use Rattle.stepping.specs.declared.cursor.Rules.{Rules}
 use Rattle.stepping.specs.declared.cursor.Rules.the-variants.{Stream, Sequence, Fields}
-
--- what a step hands out, as the record's kinds 0 to 3: the end with its position; a marker with its start, its two numbers and its end; a value; a field with
--- its ID, where that starts, and its value
-pub data Item : Type 0 where
-  finish : ℕ → Item
-  marker : ℕ → ℕ → ℕ → ℕ → Item
-  value : Spans → Item
-  field : ℕ → ℕ → Spans → Item
-
--- where an item ends
-abbrev pub itemEnd : Item → ℕ
-itemEnd (finish p) = p
-itemEnd (marker a major minor e) = e
-itemEnd (value v) = v .end
-itemEnd (field id a v) = v .end
 
 -- what stands at a step's position: a pad, with its body and its end, or an item
 pub data Tile : Type 0 where
   skip : ℕ → ℕ → Tile
   hand : Item → Tile
 
--- "A marker is E0, major, minor, EA with any two numbers": 2 under four bytes, 21 without EA, both at its start
+-- "with any two numbers": which markers pass, by their two numbers
+abbrev pub versionPasses : ℕ → ℕ → Bool
+versionPasses major minor = true
+
+-- "A marker is E0, major, minor, EA": 2 under four bytes, 21 without EA, both at its start, and 21 for numbers that do not pass, of which there are none
 unfoldable pub markerAt : List ℕ → ℕ → ℕ → Outcome Tile
 markerAt s at end =
     refuseIf (ltb (end - at) 4) 2 at
     (refuseIf (not (eqb (getD s (at + 3) 0) 234)) 21 at
-    (gives (hand (marker at (getD s (at + 1) 0) (getD s (at + 2) 0) (at + 4)))))
+    (refuseIf (not (versionPasses (getD s (at + 1) 0) (getD s (at + 2) 0))) 21 at
+    (gives (hand (marker at (getD s (at + 1) 0) (getD s (at + 2) 0) (at + 4))))))
 
 abbrev pub asTile : Frame → Outcome Tile
 asTile (padding p) = gives (skip (p .body) (p .end))
@@ -63,12 +54,6 @@ unfoldable pub tileAt : Rules → List ℕ → ℕ → ℕ → Outcome Tile
 tileAt Stream s at end = pick (eqb (getD s at 0) 224) (markerAt s at end) (framedAt s at end)
 tileAt Sequence s at end = framedAt s at end
 tileAt Fields s at end = fieldAt s at end
-
--- a pad that a step passed: where it starts (in a struct with its field ID), its body, and where it ends
-pub record Pad : Type 0 where
-  pub start : ℕ
-  pub body : ℕ
-  pub end : ℕ
 
 -- what a step finds: the pads that it passes, in order, and its answer
 pub record Found : Type 0 where
@@ -109,3 +94,7 @@ pub record Stepped : Type 0 where
 
 unfoldable pub stepOf : Rules → List ℕ → Cursor → Stepped
 stepOf rules s c = record { answer = found rules s c .answer; next = after c (found rules s c .answer) }
+
+-- what the step at `at` in the part that ends at hi answers
+abbrev pub answerAt : Rules → List ℕ → ℕ → ℕ → Outcome Item
+answerAt rules s at hi = stepOf rules s (record { at = at; end = hi }) .answer

@@ -8,7 +8,8 @@ use lib.ListN.{length}
 use Rattle.numbers.specs.Outcome.{Outcome, gives, refuses}
 use Rattle.numbers.specs.Answers.{Unsigned, Signed, varUInt, varInt}
 use Rattle.framing.specs.Answers.{Annotated, ident, readAnnotation}
-use Rattle.stepping.specs.Answers.{Item, finish, value, field, Pad, found}
+use Rattle.stepping.specs.Items.{Item, finish, value, field, Pad}
+use Rattle.stepping.specs.Answers.{found}
 use Rattle.stepping.specs.Scalars.{Opened, stepIn, Scalar, int, readScalar}
 use Rattle.stepping.specs.Runs.{cursor}
 use Rattle.stepping.specs.declared.cursor.Rules.{Rules}

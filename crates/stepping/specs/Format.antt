@@ -1,15 +1,14 @@
 -- The spans of a part by their bytes, from the Ion 1.0 Binary Encoding: what a pad and an item are in a stream, a sequence and a struct. No reader's test.
 -- Assumes nothing.
-use Prim.Native.Nat.{ℕ, _+_, _≤_, _<_}
+use Prim.Native.Nat.{ℕ, _+_, _≤_}
 use mathlib.Core.Path.{_≡_}
 use mathlib.Core.List.{List}
 use lib.ListN.{length, getD}
-use Rattle.numbers.specs.Format.{varUIntOf}
-use Rattle.numbers.specs.Outcome.{part}
-use Rattle.numbers.specs.Meaning.{NumberAt}
-use Rattle.framing.specs.Answers.{Spans}
+use Rattle.numbers.specs.Format.{varUIntOf, NumberAt}
+use Rattle.numbers.specs.Bytes.{part}
+use Rattle.framing.specs.Spans.{Spans}
 use Rattle.framing.specs.Format.{NopPadding, ValueBytes}
-use Rattle.stepping.specs.Answers.{Item, marker, value, field, Pad}
+use Rattle.stepping.specs.Items.{Item, marker, value, field, Pad}
 use Rattle.stepping.specs.declared.cursor.Rules.{Rules}
 use Rattle.stepping.specs.declared.cursor.Rules.the-variants.{Stream, Sequence, Fields}
 

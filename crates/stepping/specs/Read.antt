@@ -1,9 +1,11 @@
 -- What each case of an enum of this layer says in the scope paper's terms.
 -- Assumes nothing.
-use Rattle.numbers.specs.Outcome.{Outcome, gives, andThen}
+use Rattle.numbers.specs.Outcome.{Outcome, gives}
+use Rattle.numbers.specs.Answers.{Unsigned}
 use Rattle.numbers.specs.Read.{refusalRead}
 use Rattle.framing.specs.Read.{spansOf}
-use Rattle.stepping.specs.Answers.{Item, finish, marker, value, field, Tile, skip, hand, Stepped}
+use Rattle.stepping.specs.Items.{Item, finish, marker, value, field}
+use Rattle.stepping.specs.Answers.{Stepped}
 use Rattle.stepping.specs.Scalars.{Opened, ReadValue, Scalar, null, bool, int, float, decimal, timestamp, symbol, string, clob, blob, container}
 use Rattle.stepping.specs.declared.value.Body.{Body}
 use Rattle.stepping.specs.declared.value.Body.the-variants.{Open, Refused as BodyRefused}
@@ -13,9 +15,9 @@ use Rattle.stepping.specs.declared.value.ValueRead.{ValueRead}
 use Rattle.stepping.specs.declared.value.ValueRead.the-variants.{Read as ValueWith, Refused as ValueRefused}
 use Rattle.stepping.specs.declared.cursor.Item.{Item as ItemEnum}
 use Rattle.stepping.specs.declared.cursor.Item.the-variants.{End, Marker, Value, Field, Refused}
+use Rattle.stepping.specs.declared.cursor.Named.{Named}
+use Rattle.stepping.specs.declared.cursor.Named.the-variants.{At as NameAt, Refused as NameRefused}
 use Rattle.stepping.specs.declared.cursor.Step.{Step}
-use Rattle.stepping.specs.declared.cursor.Tile.{Tile as TileEnum}
-use Rattle.stepping.specs.declared.cursor.Tile.the-variants.{Pad as TilePad, Item as TileItem}
 
 abbrev pub bodyRead : Body → Outcome Opened
 bodyRead (Open r c) = gives (record { rules = r; body = c .at; end = c .end })
@@ -46,12 +48,9 @@ itemRead (Value v) = gives (value (spansOf v))
 itemRead (Field id a v) = gives (field id a (spansOf v))
 itemRead (Refused e) = refusalRead e
 
-abbrev pub handed : Item → Outcome Tile
-handed i = gives (hand i)
-
-abbrev pub tileRead : TileEnum → Outcome Tile
-tileRead (TilePad b e) = gives (skip b e)
-tileRead (TileItem i) = andThen (itemRead i) handed
+abbrev pub namedRead : Named → Outcome Unsigned
+namedRead (NameAt i n) = gives (record { value = i; next = n })
+namedRead (NameRefused e) = refusalRead e
 
 abbrev pub stepRead : Step → Stepped
 stepRead r = record { answer = itemRead (r .item); next = r .next }

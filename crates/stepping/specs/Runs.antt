@@ -4,7 +4,8 @@ use Prim.Native.Nat.{ℕ}
 use mathlib.Core.Path.{_≡_}
 use mathlib.Core.List.{List, [], _∷_, List·Memᴰ}
 use Rattle.numbers.specs.Outcome.{Outcome, gives, refuses}
-use Rattle.stepping.specs.Answers.{Item, finish, marker, value, field, itemEnd, Pad, Stepped, stepOf}
+use Rattle.stepping.specs.Items.{Item, finish, marker, value, field, itemEnd, Pad}
+use Rattle.stepping.specs.Answers.{Stepped, stepOf}
 use Rattle.stepping.specs.Format.{PadAt, ItemAt}
 use Rattle.stepping.specs.declared.cursor.Cursor.{Cursor}
 use Rattle.stepping.specs.declared.cursor.Rules.{Rules}

@@ -4,15 +4,17 @@ use Prim.Native.Nat.{ℕ, _-_, _/_, _%_}
 use mathlib.Core.Bool.{Bool, true, false, not}
 use mathlib.Core.List.{List}
 use lib.Dec.{ltb, eqb}
-use Rattle.numbers.specs.Outcome.{Outcome, gives, refuses, pick, refuseIf, andThen, part}
-use Rattle.framing.specs.Answers.{Spans, readValue}
-use Rattle.stepping.specs.Utf8.{utf8}
-use Rattle.stepping.specs.Widen.{widenOf}
-use Rattle.stepping.specs.Uint.{uintIn}
-use Rattle.stepping.specs.Magnitude.{significantFrom}
+use Rattle.numbers.specs.Outcome.{Outcome, gives, refuses, pick, refuseIf, andThen}
+use Rattle.numbers.specs.Bytes.{part}
+use Rattle.framing.specs.Spans.{Spans}
+use Rattle.framing.specs.Answers.{readValue}
+use Rattle.bodies.specs.Utf8.{utf8}
+use Rattle.bodies.specs.Widen.{widenOf}
+use Rattle.bodies.specs.Uint.{uintIn}
+use Rattle.bodies.specs.Magnitude.{significantFrom}
 use Rattle.stepping.specs.declared.value.Span.{Span}
 use Rattle.stepping.specs.declared.cursor.Rules.{Rules}
-use Rattle.stepping.specs.declared.cursor.Rules.the-variants.{Stream, Sequence, Fields}
+use Rattle.stepping.specs.declared.cursor.Rules.the-variants.{Sequence, Fields}
 
 -- "An entry on a value takes the part and the position of the value's wrapper or descriptor, tests 50, then frames the value afresh with the framing's
 -- refusals." The part is start..end.

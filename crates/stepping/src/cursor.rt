@@ -4,9 +4,12 @@ ghost use Prim.Native.Nat.{_+_, _≤_, _<_};
 ghost use lib.ListN.{length};
 ghost use Rattle.numbers.specs.Outcome.{gives, refuses, andThen};
 ghost use Rattle.framing.specs.Read.{spansOf, frameRead};
-ghost use Rattle.stepping.specs.Answers.{markerAt, tileAt, after, stepOf};
-ghost use Rattle.stepping.specs.Private.{namedRead, fieldId, nameAt, itemBy, tileBy, isMarker};
-ghost use Rattle.stepping.specs.Read.{itemRead, tileRead, stepRead};
+ghost use Rattle.stepping.specs.Answers.{versionPasses, markerAt, after, stepOf};
+ghost use Rattle.stepping.specs.Kinds.{rulesOf, kindOf};
+ghost use Rattle.stepping.specs.Leaving.{leftOf, isLast};
+ghost use Rattle.stepping.specs.Names.{fieldId, nameAt, nameFrom, itemBy, tileBy, isMarker, tileFrom, answerFrom};
+ghost use Rattle.stepping.specs.Read.{itemRead, namedRead, stepRead};
+ghost use Rattle.stepping.specs.Private.Tiles.{tileRead};
 use framing::binary_buffer::read_frame;
 use framing::encoded_value::EncodedValue;
 use framing::encoded_value::Frame;
@@ -24,6 +27,33 @@ pub enum Rules {
     Stream,
     Sequence,
     Fields,
+}
+
+// The last of the kinds of a part.
+pub const LAST_KIND: u64 = 2;
+
+// The rules of a part of this kind: 0 a stream, 1 the body of a list or a sexp, 2 the body of a struct. Callers refuse a kind above 2.
+pub fn rules_of(kind: u64) -> Rules
+    ensures { λ r. ⌜ r ≡ rulesOf kind ⌝ }
+{
+    if kind == 0 {
+        return Rules::Stream;
+    }
+    if kind == 1 {
+        return Rules::Sequence;
+    }
+    Rules::Fields
+}
+
+// The kind of a part with these rules.
+pub fn kind_of(rules: Rules) -> u64
+    ensures { λ r. ⌜ r ≡ kindOf rules ⌝ }
+{
+    match rules {
+        Rules::Stream => 0,
+        Rules::Sequence => 1,
+        Rules::Fields => 2,
+    }
 }
 
 // A position in a part, and the part's end.
@@ -56,10 +86,53 @@ pub enum Item {
     Refused(Refusal),
 }
 
+// Where an answer leaves its caller: behind an item at its end, or nowhere, behind the end and behind a refusal.
+pub enum Left {
+    At(usize),
+    Over,
+}
+
+pub fn left_by(item: Item) -> Left
+    ensures { λ r. ⌜ r ≡ leftOf (itemRead item) ⌝ }
+{
+    match item {
+        Item::End { position: _ } => Left::Over,
+        Item::Marker {
+            start: _,
+            major: _,
+            minor: _,
+            end,
+        } => Left::At(end),
+        Item::Value(value) => Left::At(value.end),
+        Item::Field {
+            id: _,
+            start: _,
+            value,
+        } => Left::At(value.end),
+        Item::Refused(_) => Left::Over,
+    }
+}
+
+// Whether nothing is to come behind an answer: it is the end or a refusal.
+pub fn is_last(item: Item) -> bool
+    ensures { λ r. ⌜ r ≡ isLast (itemRead item) ⌝ }
+{
+    match left_by(item) {
+        Left::At(_) => false,
+        Left::Over => true,
+    }
+}
+
 // An answer, and the cursor for the next step: the one given where the step is refused.
 pub struct Step {
     pub item: Item,
     pub next: Cursor,
+}
+
+// What the rules of a part want before a pad or a value, its name: in a struct's body a field ID, elsewhere nothing, with 0 for the ID; and where it ends.
+pub enum Named {
+    At { id: usize, next: usize },
+    Refused(Refusal),
 }
 
 // What stands at a position: a pad, or what the step answers.
@@ -72,6 +145,13 @@ fn refused(number: u64, position: usize) -> Tile
     ensures { λ r. ⌜ tileRead r ≡ refuses number position ⌝ }
 {
     Tile::Item(Item::Refused(Refusal { number, position }))
+}
+
+// Whether a marker with these two numbers passes: any does.
+fn version_passes(major: u8, minor: u8) -> bool
+    ensures { λ r. ⌜ r ≡ versionPasses major minor ⌝ }
+{
+    true
 }
 
 // The version marker that begins at `at` with E0.
@@ -87,6 +167,9 @@ fn read_ivm(s: &[u8], at: usize, end: usize) -> Tile
     }
     let major = s[at + 1];
     let minor = s[at + 2];
+    if !version_passes(major, minor) {
+        return refused(BAD_MARKER, at);
+    }
     let after = at + 4;
     Tile::Item(Item::Marker {
         start: at,
@@ -94,12 +177,6 @@ fn read_ivm(s: &[u8], at: usize, end: usize) -> Tile
         minor,
         end: after,
     })
-}
-
-// The field ID before a pad or a value, 0 where there is none, and where that pad or value stands.
-enum Named {
-    At { id: usize, next: usize },
-    Refused(Refusal),
 }
 
 // The field ID at `at`, where something follows it.
@@ -120,8 +197,8 @@ fn read_field_id(s: &[u8], at: usize, end: usize) -> Named
     }
 }
 
-// What the rules of the part want before a pad or a value: in a struct's body a field ID.
-fn read_name(rules: Rules, s: &[u8], at: usize, end: usize) -> Named
+// The name of what begins at `at`.
+pub fn read_name(rules: Rules, s: &[u8], at: usize, end: usize) -> Named
     ensures { λ r. ⌜ namedRead r ≡ nameAt rules (now (s .entry)) at end ⌝ }
 {
     match rules {
@@ -131,8 +208,18 @@ fn read_name(rules: Rules, s: &[u8], at: usize, end: usize) -> Named
     }
 }
 
-// The item that a value is, by the rules of the part.
-fn item_of(rules: Rules, at: usize, id: usize, value: EncodedValue) -> Item
+// That name, which is not read again where it was read before: then its ID is `id`, and it ends at `next`, behind `at`.
+fn name_from(rules: Rules, s: &[u8], at: usize, id: usize, next: usize, end: usize) -> Named
+    ensures { λ r. ⌜ namedRead r ≡ nameFrom rules (now (s .entry)) at end (record { value = id; next = next }) ⌝ }
+{
+    if at < next {
+        return Named::At { id, next };
+    }
+    read_name(rules, s, at, end)
+}
+
+// The item that a value behind a name is, by the rules of the part.
+pub fn item_of(rules: Rules, at: usize, id: usize, value: EncodedValue) -> Item
     ensures { λ r. ⌜ itemRead r ≡ gives (itemBy rules at id (spansOf value)) ⌝ }
 {
     match rules {
@@ -168,16 +255,19 @@ fn is_marker(rules: Rules, byte: u8) -> bool
     }
 }
 
-// What stands at `at`, by the rules of the part.
-fn read_tile(rules: Rules, s: &[u8], at: usize, end: usize) -> Tile
+// What begins at `at`, by the rules of the part; its name may be read, as `name_from` has it.
+fn read_tile(rules: Rules, s: &[u8], at: usize, id: usize, next: usize, end: usize) -> Tile
     requires { ⌜ (at < end) × (end ≤ length (now s)) ⌝ }
-    ensures { λ r. ⌜ tileRead r ≡ tileAt rules (now (s .entry)) at end ⌝ }
+    ensures { λ r. ⌜ tileRead r ≡ tileFrom rules (now (s .entry)) at end (record { value = id; next = next }) ⌝ }
 {
     if is_marker(rules, s[at]) {
         return read_ivm(s, at, end);
     }
-    match read_name(rules, s, at, end) {
-        Named::At { id, next } => tile_of(rules, at, id, read_frame(s, next, end)),
+    match name_from(rules, s, at, id, next, end) {
+        Named::At {
+            id: named,
+            next: behind,
+        } => tile_of(rules, at, named, read_frame(s, behind, end)),
         Named::Refused(refusal) => Tile::Item(Item::Refused(refusal)),
     }
 }
@@ -216,9 +306,10 @@ fn after_item(cursor: Cursor, item: Item) -> Cursor
     }
 }
 
-// What the step at `at` in the part that ends at `end` answers: past the pads to the next item, the end or a refusal.
-pub fn item_at(rules: Rules, s: &[u8], at: usize, end: usize) -> Item
-    ensures { λ r. ⌜ itemRead r ≡ stepOf rules (now (s .entry)) (record { at = at; end = end }) .answer ⌝ }
+// What the step at `at` in the part that ends at `end` answers: past the pads to the next item, the end or a refusal. The name of what begins at `at` may be
+// read: then its ID is `id`, and it ends at `next`, behind `at`.
+pub fn item_from(rules: Rules, s: &[u8], at: usize, id: usize, next: usize, end: usize) -> Item
+    ensures { λ r. ⌜ itemRead r ≡ answerFrom rules (now (s .entry)) at end (record { value = id; next = next }) ⌝ }
 {
     if outside(s, at, end) {
         return Item::Refused(Refusal {
@@ -227,10 +318,12 @@ pub fn item_at(rules: Rules, s: &[u8], at: usize, end: usize) -> Item
         });
     }
     let mut from = at;
+    let mut behind = next;
     while from < end {
-        match read_tile(rules, s, from, end) {
+        match read_tile(rules, s, from, id, behind, end) {
             Tile::Pad { body: _, end: past } => {
                 from = past;
+                behind = past;
             }
             Tile::Item(item) => {
                 return item;
@@ -238,6 +331,13 @@ pub fn item_at(rules: Rules, s: &[u8], at: usize, end: usize) -> Item
         }
     }
     Item::End { position: end }
+}
+
+// What that step answers, of whose name nothing is read.
+pub fn item_at(rules: Rules, s: &[u8], at: usize, end: usize) -> Item
+    ensures { λ r. ⌜ itemRead r ≡ stepOf rules (now (s .entry)) (record { at = at; end = end }) .answer ⌝ }
+{
+    item_from(rules, s, at, 0, at, end)
 }
 
 // One step: its answer, and the cursor that it leaves.

@@ -1,7 +1,3 @@
 // Steps through streams, sequences and structs of the Ion 1.0 binary encoding.
 pub mod cursor;
-pub mod float;
-pub mod magnitude;
-pub mod uint;
-pub mod utf8;
 pub mod value;

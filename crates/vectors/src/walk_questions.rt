@@ -5,6 +5,7 @@ use crate::text::Line;
 use framing::encoded_value::EncodedValue;
 use maps::walk::Walk;
 use stepping::cursor::Item;
+use stepping::cursor::is_last;
 
 // Both signs of an int have one name, by the code 2.
 fn name_code(type_code: u8) -> u8 {
@@ -42,14 +43,6 @@ fn visited(line: Line, depth: usize, item: Item) -> Line {
         Item::Refused(refusal) => line.word(b"refused")
             .number(refusal.number)
             .position(refusal.position),
-    }
-}
-
-fn is_last(item: Item) -> bool {
-    match item {
-        Item::End { position: _ } => true,
-        Item::Refused(_) => true,
-        _ => false,
     }
 }
 

@@ -3,7 +3,7 @@
 use borrow.Author.Needs.{needs}
 use borrow.Author.Tests.{le-ltb, lt-ltb}
 use mathlib.Core.Path.{_∙_, sym}
-use Rattle.framing.specs.Opened.{closed}
+use Rattle.framing.specs.Private.Opened.{closed}
 use Rattle.framing.proofs.binary_buffer.close_value.Statement.{statement}
 use Rattle.framing.proofs.binary_buffer.close_value.Tie as tie
 

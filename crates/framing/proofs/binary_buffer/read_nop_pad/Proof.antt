@@ -3,11 +3,12 @@
 use borrow.Author.Needs.{needs}
 use borrow.Author.Tests.{not-true, not-false}
 use mathlib.Core.Path.{_≡_, _∙_, sym, ap}
-use Rattle.numbers.specs.Outcome.{gives, refuses, part}
+use Rattle.numbers.specs.Outcome.{gives, refuses}
+use Rattle.numbers.specs.Bytes.{part}
 use Rattle.numbers.specs.declared.type_descriptor.TypeDescriptor.{TypeDescriptor}
 use Rattle.numbers.proofs.Outcomes.{then-by, each-of}
 use Rattle.framing.specs.Answers.{padAt, padOrNone, readPad}
-use Rattle.framing.specs.Read.{begunRead}
+use Rattle.framing.specs.Private.Begun.{begunRead}
 use Rattle.framing.proofs.Bounds.{BegunAt, begun-each}
 use Rattle.framing.proofs.binary_buffer.read_nop_pad.Statement.{statement}
 use Rattle.framing.proofs.binary_buffer.read_nop_pad.Tie as tie

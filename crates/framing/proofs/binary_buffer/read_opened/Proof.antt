@@ -5,7 +5,7 @@ use native.Mathlib.Omega.{arith}
 use mathlib.Core.Path.{_∙_, sym, ap}
 use lib.ListN.{getD}
 use Rattle.numbers.proofs.Outcomes.{then-by, each-of}
-use Rattle.framing.specs.Opened.{closed, openedValue}
+use Rattle.framing.specs.Private.Opened.{closed, openedValue}
 use Rattle.framing.specs.Read.{lengthRead}
 use Rattle.framing.proofs.Bounds.{value-length-each}
 use Rattle.framing.proofs.binary_buffer.read_opened.Statement.{statement}

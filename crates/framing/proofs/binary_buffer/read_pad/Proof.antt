@@ -6,7 +6,8 @@ use native.Mathlib.Omega.{arith}
 use borrow.Author.Tests.{le-ltb, lt-ltb}
 use mathlib.Core.Path.{_≡_, _∙_, sym, ap}
 use lib.ListN.{length}
-use Rattle.numbers.specs.Outcome.{gives, part}
+use Rattle.numbers.specs.Outcome.{gives}
+use Rattle.numbers.specs.Bytes.{part}
 use Rattle.numbers.proofs.Outcomes.{then-by, each-of}
 use Rattle.framing.specs.Answers.{padded, padAt, Sized}
 use Rattle.framing.specs.Read.{lengthRead}

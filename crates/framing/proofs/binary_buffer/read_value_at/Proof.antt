@@ -4,7 +4,7 @@ use borrow.Author.Needs.{needs}
 use mathlib.Core.Path.{_∙_, sym, ap}
 use native.Mathlib.Omega.{arith}
 use Rattle.numbers.proofs.Outcomes.{then-by, each-of}
-use Rattle.framing.specs.Opened.{openedRead, openedValue}
+use Rattle.framing.specs.Private.Opened.{openedRead, openedValue}
 use Rattle.framing.proofs.Opening.{opened-each, value-opened}
 use Rattle.framing.proofs.binary_buffer.read_value_at.Statement.{statement}
 use Rattle.framing.proofs.binary_buffer.read_value_at.Tie as tie

@@ -2,11 +2,12 @@
 -- Assumes nothing.
 use borrow.Author.Needs.{needs}
 use mathlib.Core.Path.{_≡_, _∙_, sym, ap}
-use Rattle.numbers.specs.Outcome.{gives, part}
+use Rattle.numbers.specs.Outcome.{gives}
+use Rattle.numbers.specs.Bytes.{part}
 use Rattle.numbers.specs.declared.type_descriptor.TypeDescriptor.{TypeDescriptor}
 use Rattle.numbers.proofs.Outcomes.{then-by, each-of}
 use Rattle.framing.specs.Answers.{lengthOrNone, readValueLength}
-use Rattle.framing.specs.Read.{begunRead}
+use Rattle.framing.specs.Private.Begun.{begunRead}
 use Rattle.framing.proofs.Bounds.{BegunAt, begun-each}
 use Rattle.framing.proofs.binary_buffer.read_value_length.Statement.{statement}
 use Rattle.framing.proofs.binary_buffer.read_value_length.Tie as tie

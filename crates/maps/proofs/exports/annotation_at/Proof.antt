@@ -2,7 +2,8 @@
 -- Assumes nothing.
 use borrow.Author.Tests.{lt-ltb, le-ltb}
 use mathlib.Core.Path.{_∙_, ap}
-use Rattle.maps.specs.Exported.{annotationWords, exportedAnnotation}
+use Rattle.records.specs.Words.{annotationWords}
+use Rattle.maps.specs.Exported.{exportedAnnotation}
 use borrow.Author.Needs.{needs}
 use Rattle.maps.proofs.exports.annotation_at.Statement.{statement}
 use Rattle.maps.proofs.exports.annotation_at.Tie as tie

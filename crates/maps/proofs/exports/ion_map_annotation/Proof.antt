@@ -1,19 +1,15 @@
--- `ion_map_annotation` meets its contract: 51 before anything else, then the record and its number.
+-- `ion_map_annotation` meets its contract: the record of the annotation step and its number, 51 first.
 -- Assumes nothing.
-use Prim.Native.Nat.{ℕ}
-use borrow.Author.Tests.{lt-ltb, le-ltb}
+use borrow.Author.Needs.{needs}
 use mathlib.Core.Path.{_∙_, ap}
 use mathlib.Core.List.{List}
-use Rattle.maps.specs.Buffer.{numberIn, recordIn, returned}
+use Prim.Native.Nat.{ℕ}
+use Rattle.records.specs.Buffer.{recordIn, returnedBy}
+use Rattle.records.specs.Words.{annotationWords}
+use Rattle.records.proofs.Numbers.{returned-by, annotation-number}
 use Rattle.maps.specs.Exported.{exportedAnnotation}
-use Rattle.maps.proofs.Telling.{annotation-number}
-use borrow.Author.Needs.{needs}
 use Rattle.maps.proofs.exports.ion_map_annotation.Statement.{statement}
 use Rattle.maps.proofs.exports.ion_map_annotation.Tie as tie
-
-returns : tie.Need-returns
-unfolding returned recordIn
-returns c = (rw (lt-ltb _ _ (c .if1 .taken)), rw (lt-ltb _ _ (c .if1 .taken)))
 
 annotation-at-requires : tie.Need-annotation-at-requires
 annotation-at-requires c κs = search needs
@@ -24,15 +20,15 @@ put-record-requires c κs = search needs
 same-length : tie.Need-same-length
 same-length c = search needs
 
-returns-2 : tie.Need-returns-2
-unfolding returned
-returns-2 c =
-    let q = c .before .before in
-    let w = q .before .before .before in
-    let a = w .before .before .before .before .args in
-    let e = w .annotation-at .ensures in
-    (rw (le-ltb _ _ (w .before .if1 .left)) (q .put-record .ensures .0 ∙ ap numberIn e ∙ annotation-number (a .position) (exportedAnnotation (a .map .now) (a .start) (a .end) (a .position))), q .put-record .ensures .1 ∙ ap (λ (ws : List ℕ). recordIn ws (a .out .now)) e)
+returns : tie.Need-returns
+returns c =
+    let p = c .before .before in
+    let q = p .before in
+    let a = q .before .before .before .before .args in
+    let old = a .out .now in
+    let o = exportedAnnotation (a .map .now) (a .start) (a .end) (a .position) in
+    let e = q .annotation-at .ensures in
+    (p .put-record .ensures .0 ∙ ap (λ (ws : List ℕ). returnedBy ws old) e ∙ returned-by (annotationWords (a .position) o) old o (annotation-number (a .position) o), p .put-record .ensures .1 ∙ ap (λ (ws : List ℕ). recordIn ws old) e)
 
 pub ion-map-annotation-spec : {M : Type 1} → statement M
-ion-map-annotation-spec =
-    tie.close (tie.spec returns annotation-at-requires put-record-requires same-length returns-2)
+ion-map-annotation-spec = tie.close (tie.spec annotation-at-requires put-record-requires same-length returns)

@@ -1,19 +1,15 @@
--- `ion_map_number` meets its contract: 51 before anything else, then the record and its number.
+-- `ion_map_number` meets its contract: the record of the number and what it returns, 51 first.
 -- Assumes nothing.
-use Prim.Native.Nat.{ℕ}
-use borrow.Author.Tests.{lt-ltb, le-ltb}
+use borrow.Author.Needs.{needs}
 use mathlib.Core.Path.{_∙_, ap}
 use mathlib.Core.List.{List}
-use Rattle.maps.specs.Buffer.{numberIn, recordIn, returned}
+use Prim.Native.Nat.{ℕ}
+use Rattle.records.specs.Buffer.{recordIn, returnedBy}
+use Rattle.records.specs.Words.{numberWords}
+use Rattle.records.proofs.Numbers.{returned-by, number-number}
 use Rattle.maps.specs.Exported.{exportedNumber}
-use Rattle.maps.proofs.Telling.{number-number}
-use borrow.Author.Needs.{needs}
 use Rattle.maps.proofs.exports.ion_map_number.Statement.{statement}
 use Rattle.maps.proofs.exports.ion_map_number.Tie as tie
-
-returns : tie.Need-returns
-unfolding returned recordIn
-returns c = (rw (lt-ltb _ _ (c .if1 .taken)), rw (lt-ltb _ _ (c .if1 .taken)))
 
 number-at-requires : tie.Need-number-at-requires
 number-at-requires c κs = search needs
@@ -24,15 +20,15 @@ put-record-requires c κs = search needs
 same-length : tie.Need-same-length
 same-length c = search needs
 
-returns-2 : tie.Need-returns-2
-unfolding returned
-returns-2 c =
-    let q = c .before .before in
-    let w = q .before .before .before in
-    let a = w .before .before .before .before .args in
-    let e = w .number-at .ensures in
-    (rw (le-ltb _ _ (w .before .if1 .left)) (q .put-record .ensures .0 ∙ ap numberIn e ∙ number-number (a .position) (exportedNumber (a .map .now) (a .start) (a .end) (a .position) (a .form) (a .size))), q .put-record .ensures .1 ∙ ap (λ (ws : List ℕ). recordIn ws (a .out .now)) e)
+returns : tie.Need-returns
+returns c =
+    let p = c .before .before in
+    let q = p .before in
+    let a = q .before .before .before .before .args in
+    let old = a .out .now in
+    let o = exportedNumber (a .map .now) (a .start) (a .end) (a .position) (a .form) (a .size) in
+    let e = q .number-at .ensures in
+    (p .put-record .ensures .0 ∙ ap (λ (ws : List ℕ). returnedBy ws old) e ∙ returned-by (numberWords (a .position) o) old o (number-number (a .position) o), p .put-record .ensures .1 ∙ ap (λ (ws : List ℕ). recordIn ws old) e)
 
 pub ion-map-number-spec : {M : Type 1} → statement M
-ion-map-number-spec =
-    tie.close (tie.spec returns number-at-requires put-record-requires same-length returns-2)
+ion-map-number-spec = tie.close (tie.spec number-at-requires put-record-requires same-length returns)

@@ -1,18 +1,15 @@
--- `ion_map_scalar` meets its contract: 51 before anything else, then the record and its number.
+-- `ion_map_scalar` meets its contract: the record of the reading and its number, 51 first.
 -- Assumes nothing.
-use Prim.Native.Nat.{ℕ}
-use borrow.Author.Tests.{lt-ltb, le-ltb}
+use borrow.Author.Needs.{needs}
 use mathlib.Core.Path.{_∙_, ap}
 use mathlib.Core.List.{List}
-use Rattle.maps.specs.Buffer.{numberIn, recordIn, returned}
-use Rattle.maps.proofs.Telling.{reading-number}
-use borrow.Author.Needs.{needs}
+use Prim.Native.Nat.{ℕ}
+use Rattle.records.specs.Buffer.{recordIn, returnedBy}
+use Rattle.stepping.specs.Scalars.{readScalar, readWithValue}
+use Rattle.records.specs.Words.{readingWords}
+use Rattle.records.proofs.Numbers.{returned-by, reading-number}
 use Rattle.maps.proofs.exports.ion_map_scalar.Statement.{statement}
 use Rattle.maps.proofs.exports.ion_map_scalar.Tie as tie
-
-returns : tie.Need-returns
-unfolding returned recordIn
-returns c = (rw (lt-ltb _ _ (c .if1 .taken)), rw (lt-ltb _ _ (c .if1 .taken)))
 
 scalar-at-requires : tie.Need-scalar-at-requires
 scalar-at-requires c κs = search needs
@@ -23,15 +20,15 @@ put-record-requires c κs = search needs
 same-length : tie.Need-same-length
 same-length c = search needs
 
-returns-2 : tie.Need-returns-2
-unfolding returned
-returns-2 c =
-    let q = c .before .before in
-    let w = q .before .before .before in
-    let a = w .before .before .before .before .args in
-    let e = w .scalar-at .ensures in
-    (rw (le-ltb _ _ (w .before .if1 .left)) (q .put-record .ensures .0 ∙ ap numberIn e ∙ reading-number (a .map .now) (a .start) (a .end) (a .position)), q .put-record .ensures .1 ∙ ap (λ (ws : List ℕ). recordIn ws (a .out .now)) e)
+returns : tie.Need-returns
+returns c =
+    let p = c .before .before in
+    let q = p .before in
+    let a = q .before .before .before .before .args in
+    let old = a .out .now in
+    let o = readScalar (a .map .now) (a .start) (a .end) (a .position) in
+    let e = q .scalar-at .ensures in
+    (p .put-record .ensures .0 ∙ ap (λ (ws : List ℕ). returnedBy ws old) e ∙ returned-by (readingWords (readWithValue (a .map .now) (a .start) (a .end) (a .position))) old o (reading-number (a .map .now) (a .start) (a .end) (a .position)), p .put-record .ensures .1 ∙ ap (λ (ws : List ℕ). recordIn ws old) e)
 
 pub ion-map-scalar-spec : {M : Type 1} → statement M
-ion-map-scalar-spec =
-    tie.close (tie.spec returns scalar-at-requires put-record-requires same-length returns-2)
+ion-map-scalar-spec = tie.close (tie.spec scalar-at-requires put-record-requires same-length returns)

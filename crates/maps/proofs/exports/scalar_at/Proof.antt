@@ -3,7 +3,7 @@
 use mathlib.Core.Path.{_∙_, sym, ap}
 use Rattle.stepping.specs.Read.{valueRead}
 use Rattle.stepping.specs.declared.value.ValueRead.{ValueRead}
-use Rattle.maps.specs.Exported.{readingWords}
+use Rattle.records.specs.Words.{readingWords}
 use borrow.Author.Needs.{needs}
 use Rattle.maps.proofs.exports.scalar_at.Statement.{statement}
 use Rattle.maps.proofs.exports.scalar_at.Tie as tie

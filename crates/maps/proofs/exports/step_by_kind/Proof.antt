@@ -1,64 +1,76 @@
--- `step_by_kind` meets its contract: each return is a case of the kind.
+-- `step_by_kind` meets its contract: 50 outside, the end at the part's end, and else the step by the kind's rules.
 -- Assumes nothing.
-use borrow.Author.Tests.{lt-ltb, le-ltb, eq-eqb, ne-eqb}
-use mathlib.Core.Path.{ap}
-use Rattle.maps.specs.Exported.{exportedStep}
 use borrow.Author.Needs.{needs}
+use native.Mathlib.Omega.{arith}
+use borrow.Author.Tests.{not-true, not-false}
+use Prim.Native.Nat.{ℕ}
+use mathlib.Core.Path.{_≡_, _∙_, sym, ap}
+use Rattle.stepping.specs.Answers.{answerAt}
+use Rattle.stepping.specs.Kinds.{rulesOf}
+use Rattle.stepping.specs.declared.cursor.Rules.{Rules}
+use Rattle.stepping.proofs.Moves.{moves-end}
+use Rattle.maps.specs.Exported.{exportedStep}
+use Rattle.maps.proofs.Within.{Inside, inside, step-is, step-outside}
 use Rattle.maps.proofs.exports.step_by_kind.Statement.{statement}
 use Rattle.maps.proofs.exports.step_by_kind.Tie as tie
+
+-- past the first test the position is in the part
+part : (c : tie.Else1) → let a = c .before .before .before .args in Inside (a .map .now) (a .start) (a .end) (a .position) (a .kind)
+part c =
+    let a = c .before .before .before .args in
+    inside (a .map .now) (a .start) (a .end) (a .position) (a .kind) (sym (c .before .inside .ensures) ∙ not-false _ (c .if1 .left))
+
+-- and the step is the step of its rules
+stepped : (c : tie.Else1) → let a = c .before .before .before .args in exportedStep (a .map .now) (a .start) (a .end) (a .position) (a .kind) ≡ answerAt (rulesOf (a .kind)) (a .map .now) (a .position) (a .end)
+stepped c =
+    let a = c .before .before .before .args in
+    step-is (a .map .now) (a .start) (a .end) (a .position) (a .kind) (part c .low) (part c .kind-is)
+
+inside-requires : tie.Need-inside-requires
+inside-requires c κs = search needs
 
 refused-outside-requires : tie.Need-refused-outside-requires
 refused-outside-requires c κs = search needs
 
 returns : tie.Need-returns
-unfolding exportedStep
-returns c = rw (lt-ltb _ _ (c .before .if1 .taken)) (c .refused-outside .ensures)
-
-refused-outside-requires-2 : tie.Need-refused-outside-requires-2
-refused-outside-requires-2 c κs = search needs
+returns c =
+    let a = c .before .before .before .before .args in
+    c .refused-outside .ensures
+    ∙ sym (step-outside (a .map .now) (a .start) (a .end) (a .position) (a .kind) (sym (c .before .before .inside .ensures) ∙ not-true _ (c .before .if1 .taken)))
 
 returns-2 : tie.Need-returns-2
-unfolding exportedStep
-returns-2 c = rw (le-ltb _ _ (c .before .before .if1 .left), lt-ltb _ _ (c .before .if2 .taken)) (c .refused-outside2 .ensures)
+returns-2 c =
+    let a = c .before .before .before .before .args in
+    let e : a .position ≡ a .end = omega (arith, c .if2 .taken) in
+    sym
+    (stepped (c .before)
+    ∙ ap (λ (k : ℕ). answerAt (rulesOf (a .kind)) (a .map .now) k (a .end)) e
+    ∙ moves-end (rulesOf (a .kind)) (a .map .now) (a .end) (part (c .before) .high))
 
-item-at-requires : tie.Need-item-at-requires
-item-at-requires c κs = search needs
+rules-of-requires : tie.Need-rules-of-requires
+rules-of-requires c κs = search needs
+
+item-inside-requires : tie.Need-item-inside-requires
+item-inside-requires c κs =
+    let p = part (c .before .before) in (omega (arith, p .order, c .before .if2 .left), p .high)
 
 returns-3 : tie.Need-returns-3
-unfolding exportedStep
 returns-3 c =
-    let d = c .before .before in
-    rw (le-ltb _ _ (d .before .if1 .left), le-ltb _ _ (d .if2 .left), eq-eqb _ _ (c .before .if3 .taken)) (c .item-at .ensures)
-
-item-at-requires-2 : tie.Need-item-at-requires-2
-item-at-requires-2 c κs = search needs
-
-returns-4 : tie.Need-returns-4
-unfolding exportedStep
-returns-4 c =
-    let d = c .before .before .before in
-    rw (le-ltb _ _ (d .before .if1 .left), le-ltb _ _ (d .if2 .left), ne-eqb _ _ (c .before .before .if3 .left), eq-eqb _ _ (c .before .if4 .taken)) (c .item-at2 .ensures)
-
-item-at-requires-3 : tie.Need-item-at-requires-3
-item-at-requires-3 c κs = search needs
-
-returns-5 : tie.Need-returns-5
-unfolding exportedStep
-returns-5 c =
-    let d = c .before .before .before in
-    rw (le-ltb _ _ (d .before .if1 .left), le-ltb _ _ (d .if2 .left), ne-eqb _ _ (c .before .before .if3 .left), ne-eqb _ _ (c .before .if4 .left)) (c .item-at3 .ensures)
+    let r = c .before in
+    let d = r .before .before in
+    let a = d .before .before .before .args in
+    c .item-inside .ensures
+    ∙ ap (λ (x : Rules). answerAt x (a .map .now) (a .position) (a .end)) (r .rules-of .ensures)
+    ∙ sym (stepped d)
 
 pub step-by-kind-spec : {M : Type 1} → statement M
 step-by-kind-spec =
     tie.close
     (tie.spec
+    inside-requires
     refused-outside-requires
     returns
-    refused-outside-requires-2
     returns-2
-    item-at-requires
-    returns-3
-    item-at-requires-2
-    returns-4
-    item-at-requires-3
-    returns-5)
+    rules-of-requires
+    item-inside-requires
+    returns-3)

@@ -1,42 +1,62 @@
--- `next_var_uint` meets its contract: a short VarUInt is the VarUInt, and the rest is `read_var_uint`'s.
+-- `next_var_uint` meets its contract: the first bytes are all of the VarUInt, or it goes on past them.
 -- Assumes nothing.
-use mathlib.Core.Path.{_≡_, _∙_, sym, ap}
-use Rattle.numbers.specs.Answers.{varUInt}
-use Rattle.numbers.specs.Read.{shortRead}
+use mathlib.Core.Path.{_≡_, _∙_, sym, subst}
+use Rattle.numbers.specs.Answers.{varUInt, varNumber}
+use Rattle.numbers.specs.Private.Groups.{Begins}
+use Rattle.numbers.specs.declared.binary_buffer.FirstBytes.{FirstBytes}
 use Rattle.numbers.proofs.Short.{short-given}
 use borrow.Author.Needs.{needs}
 use Rattle.numbers.proofs.binary_buffer.next_var_uint.Statement.{statement}
 use Rattle.numbers.proofs.binary_buffer.next_var_uint.Tie as tie
 
-short-var-uint-requires : tie.Need-short-var-uint-requires
-short-var-uint-requires c κs = search needs
+-- what is told where the answer is f
+told : (q : tie.After-read-first) {f : FirstBytes} → q .read-first .result ≡ f → let a = q .before .before .args in Begins (a .s .now) (a .at) (a .end) f
+told q e = let a = q .before .before .args in subst (Begins (a .s .now) (a .at) (a .end)) e (q .read-first .ensures)
+
+read-first-requires : tie.Need-read-first-requires
+read-first-requires c κs = search needs
 
 enum-known-value : tie.Need-enum-known-value
 enum-known-value c = search needs
 
+enum-known-value-2 : tie.Need-enum-known-value-2
+enum-known-value-2 c = search needs
+
+read-groups-requires : tie.Need-read-groups-requires
+read-groups-requires c κs =
+    let g = told (c .before .before .before) (c .before .value2 .given .1) in (g .begins, g .ends, g .within, g .small)
+
 enum-told : tie.Need-enum-told
 enum-told c = search needs
 
-read-var-uint-requires : tie.Need-read-var-uint-requires
-read-var-uint-requires c κs = search needs
+refused-requires : tie.Need-refused-requires
+refused-requires c κs = search needs
 
 returns : tie.Need-returns
 returns c =
     let q = c .before .before .before in
     let a = q .before .before .args in
-    let e : q .short-var-uint .result ≡ _ = c .before .value .given .1 in
-    sym (short-given (a .at) (varUInt (a .s .now) (a .at) (a .end)) (sym (q .short-var-uint .ensures) ∙ ap shortRead e))
+    sym (short-given (a .at) (varUInt (a .s .now) (a .at) (a .end)) (told q (c .before .value .given .1)))
 
 returns-2 : tie.Need-returns-2
-returns-2 c = search needs
+returns-2 c =
+    let d = c .before .before in
+    c .read-groups .ensures ∙ sym (told (d .before .before) (d .value2 .given .1) .rest)
+
+returns-3 : tie.Need-returns-3
+unfolding varUInt varNumber
+returns-3 c = rw (c .refused .ensures, told (c .before .before .before) (c .before .enum-told .given .1))
 
 pub next-var-uint-spec : {M : Type 1} → statement M
 next-var-uint-spec =
     tie.close
     (tie.spec
-    short-var-uint-requires
+    read-first-requires
     enum-known-value
+    enum-known-value-2
+    read-groups-requires
     enum-told
-    read-var-uint-requires
+    refused-requires
     returns
-    returns-2)
+    returns-2
+    returns-3)

@@ -6,7 +6,7 @@ use borrow.Author.Needs.{needs}
 use mathlib.Core.Path.{_≡_, _∙_, sym, ap}
 use lib.ListN.{getD}
 use Rattle.numbers.specs.Answers.{lastByte}
-use Rattle.numbers.specs.Groups.{groups}
+use Rattle.numbers.specs.Private.Groups.{groups}
 use Rattle.numbers.specs.Read.{varUIntRead}
 use Rattle.numbers.proofs.LastByte.{last-none}
 use Rattle.numbers.proofs.Grouping.{groups-cut, groups-on, groups-here, grows, fits}

@@ -1,125 +1,47 @@
--- `short_var_uint` meets its contract: a VarUInt of one byte, two or three is worth their bits, and else there is none.
+-- `short_var_uint` meets its contract: what the first bytes tell, where they are all of the VarUInt.
 -- Assumes nothing.
-use Prim.Native.Nat.{_+_}
-use native.Mathlib.Omega.{arith}
-use mathlib.Core.Path.{_≡_, sym}
-use lib.ListN.{getD}
-use Rattle.numbers.proofs.Grouping.{var-uint-one, var-uint-two, var-uint-three}
-use Rattle.numbers.proofs.Short.{given-short, short-none}
+use mathlib.Core.Path.{_≡_, sym, subst}
+use Rattle.numbers.specs.Answers.{varUInt, varNumber}
+use Rattle.numbers.specs.Private.Groups.{Begins}
+use Rattle.numbers.specs.declared.binary_buffer.FirstBytes.{FirstBytes}
 use borrow.Author.Needs.{needs}
 use Rattle.numbers.proofs.binary_buffer.short_var_uint.Statement.{statement}
 use Rattle.numbers.proofs.binary_buffer.short_var_uint.Tie as tie
 
+-- what is told where the answer is f
+told : (q : tie.After-read-first) {f : FirstBytes} → q .read-first .result ≡ f → let a = q .before .before .args in Begins (a .s .now) (a .at) (a .end) f
+told q e = let a = q .before .before .args in subst (Begins (a .s .now) (a .at) (a .end)) e (q .read-first .ensures)
+
+read-first-requires : tie.Need-read-first-requires
+read-first-requires c κs = search needs
+
+enum-known-value : tie.Need-enum-known-value
+enum-known-value c = search needs
+
+enum-told : tie.Need-enum-told
+enum-told c = search needs
+
+enum-told-2 : tie.Need-enum-told-2
+enum-told-2 c = search needs
+
 returns : tie.Need-returns
-returns c =
-    let a = c .before .before .args in
-    sym (short-none (a .s .now) (a .at) (a .end) (λ h k. omega arith) (λ h k. omega arith) (λ h k. omega arith))
+returns c = sym (told (c .before .before .before) (c .before .value .given .1))
 
 returns-2 : tie.Need-returns-2
-returns-2 c =
-    let a = c .before .before .before .args in
-    sym (short-none (a .s .now) (a .at) (a .end) (λ h k. omega arith) (λ h k. omega arith) (λ h k. omega arith))
-
-shared-slice-read-wide : tie.Need-shared-slice-read-wide
-shared-slice-read-wide c = search needs
-
-wide-requires : tie.Need-wide-requires
-wide-requires c κs = search needs
-
-add-after : tie.Need-add-after
-add-after c = search needs
+returns-2 c = sym (told (c .before .before) (c .enum-told .given .1) .long)
 
 returns-3 : tie.Need-returns-3
-returns-3 c =
-    let a = c .before .before .before .before .before .before .args in
-    let e : c .before .wide .result ≡ getD (a .s .now) (a .at) 0 = c .before .wide .ensures in
-    rw e (sym (given-short (a .at) (var-uint-one (a .s .now) (a .at) (a .end) (omega arith) (omega arith) (omega arith)) (omega arith)))
-
-returns-4 : tie.Need-returns-4
-returns-4 c =
-    let a = c .before .before .before .before .before .before .before .args in
-    sym (short-none (a .s .now) (a .at) (a .end) (λ h k. omega arith) (λ h k. omega arith) (λ h k. omega arith))
-
-shared-slice-read-wide-2 : tie.Need-shared-slice-read-wide-2
-shared-slice-read-wide-2 c = search needs
-
-wide-requires-2 : tie.Need-wide-requires-2
-wide-requires-2 c κs = search needs
-
-add-past : tie.Need-add-past
-add-past c = search needs
-
-mul-two : tie.Need-mul-two
-mul-two c = search needs
-
-add-two : tie.Need-add-two
-add-two c = search needs
-
-returns-5 : tie.Need-returns-5
-returns-5 c =
-    let q = c .before .before .before .before .before in
-    let a = q .before .before .before .before .before .args in
-    let e : q .wide .result ≡ getD (a .s .now) (a .at) 0 = q .wide .ensures in
-    let d : c .before .wide2 .result ≡ getD (a .s .now) (a .at + 1) 0 = c .before .wide2 .ensures in
-    rw (e, d) (sym (given-short (a .at) (var-uint-two (a .s .now) (a .at) (a .end) (omega arith) (omega arith) (omega arith) (omega arith)) (omega arith)))
-
-returns-6 : tie.Need-returns-6
-returns-6 c =
-    let a = c .before .before .before .before .before .before .before .before .before .before .before .args in
-    sym (short-none (a .s .now) (a .at) (a .end) (λ h k. omega arith) (λ h k. omega arith) (λ h k. omega arith))
-
-shared-slice-read-wide-3 : tie.Need-shared-slice-read-wide-3
-shared-slice-read-wide-3 c = search needs
-
-wide-requires-3 : tie.Need-wide-requires-3
-wide-requires-3 c κs = search needs
-
-returns-7 : tie.Need-returns-7
-returns-7 c =
-    let a = c .before .before .before .before .before .before .before .before .before .before .before .before .before .before .args in
-    sym (short-none (a .s .now) (a .at) (a .end) (λ h k. omega arith) (λ h k. omega arith) (λ h k. omega arith))
-
-add-next : tie.Need-add-next
-add-next c = search needs
-
-mul-three : tie.Need-mul-three
-mul-three c = search needs
-
-add-three : tie.Need-add-three
-add-three c = search needs
-
-returns-8 : tie.Need-returns-8
-returns-8 c =
-    let p = c .before .before .before .before .before in
-    let q = p .before .before .before .before in
-    let a = q .before .before .before .before .before .args in
-    let e : q .wide .result ≡ getD (a .s .now) (a .at) 0 = q .wide .ensures in
-    let d : p .wide2 .result ≡ getD (a .s .now) (a .at + 1) 0 = p .wide2 .ensures in
-    let f : c .before .wide3 .result ≡ getD (a .s .now) (a .at + 1 + 1) 0 = c .before .wide3 .ensures in
-    rw (e, d, f) (sym (given-short (a .at) (var-uint-three (a .s .now) (a .at) (a .end) (omega arith) (omega arith) (omega arith) (omega arith) (omega arith)) (omega arith)))
+unfolding varUInt varNumber
+returns-3 c = rw (told (c .before .before) (c .enum-told2 .given .1))
 
 pub short-var-uint-spec : {M : Type 1} → statement M
 short-var-uint-spec =
     tie.close
     (tie.spec
+    read-first-requires
+    enum-known-value
+    enum-told
+    enum-told-2
     returns
     returns-2
-    shared-slice-read-wide
-    wide-requires
-    add-after
-    returns-3
-    returns-4
-    shared-slice-read-wide-2
-    wide-requires-2
-    add-past
-    mul-two
-    add-two
-    returns-5
-    returns-6
-    shared-slice-read-wide-3
-    wide-requires-3
-    returns-7
-    add-next
-    mul-three
-    add-three
-    returns-8)
+    returns-3)

@@ -2,7 +2,7 @@
 -- Assumes nothing.
 use borrow.Author.Needs.{needs}
 use Rattle.numbers.specs.Descriptor.{kindOf}
-use Rattle.numbers.specs.Packed.{packedOf}
+use Rattle.numbers.specs.Private.Packed.{packedOf}
 use Rattle.numbers.proofs.Table.{entry}
 use Rattle.numbers.proofs.type_descriptor.packed.Statement.{statement}
 use Rattle.numbers.proofs.type_descriptor.packed.Tie as tie

@@ -5,7 +5,7 @@ use borrow.Author.Tests.{eq-eqb, ne-eqb}
 use mathlib.Core.Path.{_∙_}
 use Rattle.numbers.specs.Read.{varUIntRead}
 use Rattle.numbers.proofs.Outcomes.{then-by}
-use Rattle.stepping.specs.Private.{followed, fieldId}
+use Rattle.stepping.specs.Names.{followed, fieldId}
 use Rattle.stepping.proofs.cursor.read_field_id.Statement.{statement}
 use Rattle.stepping.proofs.cursor.read_field_id.Tie as tie
 

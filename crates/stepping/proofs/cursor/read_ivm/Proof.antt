@@ -1,8 +1,9 @@
--- `read_ivm` meets its contract: its two tests are the definition's.
+-- `read_ivm` meets its contract: its tests are the definition's.
 -- Assumes nothing.
 use borrow.Author.Needs.{needs}
-use borrow.Author.Tests.{le-ltb, lt-ltb, eq-eqb, ne-eqb}
+use borrow.Author.Tests.{le-ltb, lt-ltb, eq-eqb, ne-eqb, not-true}
 use mathlib.Core.Path.{_∙_, sym}
+use mathlib.Core.Bool.{true≢false}
 use Rattle.stepping.specs.Answers.{markerAt}
 use Rattle.stepping.proofs.cursor.read_ivm.Statement.{statement}
 use Rattle.stepping.proofs.cursor.read_ivm.Tie as tie
@@ -43,13 +44,23 @@ add-minor c = search needs
 shared-slice-read-minor : tie.Need-shared-slice-read-minor
 shared-slice-read-minor c = search needs
 
+version-passes-requires : tie.Need-version-passes-requires
+version-passes-requires c κs = search needs
+
+refused-requires-3 : tie.Need-refused-requires-3
+refused-requires-3 c κs = search needs
+
+-- every marker passes
+returns-3 : tie.Need-returns-3
+returns-3 c = absurd (true≢false (sym (c .before .before .version-passes .ensures) ∙ not-true _ (c .before .if3 .taken)))
+
 add-after : tie.Need-add-after
 add-after c = search needs
 
-returns-3 : tie.Need-returns-3
+returns-4 : tie.Need-returns-4
 unfolding markerAt
-returns-3 c =
-    let d = c .before .before in rw (le-ltb _ _ (d .before .before .if1 .left), eq-eqb _ _ (d .if2 .left))
+returns-4 c =
+    let d = c .before .before .before .before in rw (le-ltb _ _ (d .before .before .if1 .left), eq-eqb _ _ (d .if2 .left))
 
 pub read-ivm-spec : {M : Type 1} → statement M
 read-ivm-spec =
@@ -66,5 +77,8 @@ read-ivm-spec =
     shared-slice-read-major
     add-minor
     shared-slice-read-minor
+    version-passes-requires
+    refused-requires-3
+    returns-3
     add-after
-    returns-3)
+    returns-4)

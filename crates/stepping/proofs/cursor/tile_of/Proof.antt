@@ -3,8 +3,8 @@
 use borrow.Author.Needs.{needs}
 use mathlib.Core.Path.{ap}
 use Rattle.numbers.specs.Outcome.{Outcome, andThen}
-use Rattle.stepping.specs.Answers.{Item}
-use Rattle.stepping.specs.Read.{handed}
+use Rattle.stepping.specs.Items.{Item}
+use Rattle.stepping.specs.Private.Tiles.{handed}
 use Rattle.stepping.proofs.cursor.tile_of.Statement.{statement}
 use Rattle.stepping.proofs.cursor.tile_of.Tie as tie
 

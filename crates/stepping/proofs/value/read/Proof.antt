@@ -6,7 +6,7 @@ use mathlib.Core.Path.{_≡_, refl, _∙_}
 use mathlib.Core.List.{List}
 use Rattle.numbers.specs.Outcome.{Outcome, gives, refuses, andThen}
 use Rattle.numbers.proofs.Outcomes.{then-by}
-use Rattle.framing.specs.Answers.{Spans}
+use Rattle.framing.specs.Spans.{Spans}
 use Rattle.stepping.specs.Scalars.{valueIn, Scalar, ReadValue, scalarOf, readScalar, withValue, readWithValue}
 use Rattle.stepping.specs.Read.{valueRead}
 use Rattle.stepping.proofs.value.read.Statement.{statement}

@@ -6,12 +6,13 @@ use native.Mathlib.Omega.{arith}
 use borrow.Author.Tests.{eq-eqb, ne-eqb}
 use mathlib.Core.Path.{_≡_, _∙_, ap}
 use lib.ListN.{length}
-use Rattle.numbers.specs.Outcome.{gives, part}
+use Rattle.numbers.specs.Outcome.{gives}
+use Rattle.numbers.specs.Bytes.{part}
 use Rattle.numbers.specs.Format.{uintOf}
 use Rattle.stepping.specs.Scalars.{float, floatOf}
-use Rattle.stepping.specs.Uint.{uintIn}
-use Rattle.stepping.specs.Widen.{widenOf}
-use Rattle.stepping.proofs.BigEndian.{uint-inside, uint-below}
+use Rattle.bodies.specs.Uint.{uintIn}
+use Rattle.bodies.specs.Widen.{widenOf}
+use Rattle.bodies.proofs.BigEndian.{uint-inside, uint-below}
 use Rattle.stepping.proofs.value.read_float.Statement.{statement}
 use Rattle.stepping.proofs.value.read_float.Tie as tie
 

@@ -4,7 +4,7 @@ use borrow.Author.Needs.{needs}
 use Prim.Native.Nat.{_≤_}
 use mathlib.Core.Path.{_≡_, _∙_, sym, ap, subst}
 use lib.ListN.{length}
-use Rattle.numbers.specs.Outcome.{part}
+use Rattle.numbers.specs.Bytes.{part}
 use Rattle.stepping.specs.Scalars.{readScalar, spanOf, scalarPart}
 use Rattle.stepping.specs.declared.value.Span.{Span}
 use Rattle.stepping.proofs.Reading.{read-span}

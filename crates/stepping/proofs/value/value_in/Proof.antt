@@ -10,7 +10,7 @@ use lib.ListN.{length}
 use Rattle.numbers.specs.Outcome.{outsideOf}
 use Rattle.numbers.proofs.Outcomes.{inside-order, inside-end}
 use Rattle.stepping.specs.Scalars.{valueIn}
-use Rattle.stepping.specs.Private.{valueFrom}
+use Rattle.stepping.specs.Private.Values.{valueFrom}
 use Rattle.stepping.proofs.Valued.{value-outside, value-at-end, value-at-pad, value-stepped}
 use Rattle.stepping.proofs.value.value_in.Statement.{statement}
 use Rattle.stepping.proofs.value.value_in.Tie as tie

@@ -1,0 +1,5 @@
+pub mod Leading
+pub mod BigEndian
+pub mod Widening
+pub mod Rows
+pub mod Encoding

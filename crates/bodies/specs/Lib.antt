@@ -1,0 +1,5 @@
+pub mod Utf8
+pub mod Widen
+pub mod Uint
+pub mod Magnitude
+pub mod Private

@@ -1,0 +1,5 @@
+// What is read from a scalar's body by itself: UTF-8, floats, big-endian numbers and magnitudes.
+pub mod float;
+pub mod magnitude;
+pub mod uint;
+pub mod utf8;

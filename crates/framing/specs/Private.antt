@@ -1,0 +1,4 @@
+-- Definitions that only private functions' contracts cite: a reader of the crate needs none of them.
+pub mod Begun
+pub mod Opened
+pub mod Telling

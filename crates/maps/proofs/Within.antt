@@ -1,0 +1,68 @@
+-- A position in a part of a map: there an exported step is the step of its rules, and elsewhere it is refused with 50.
+-- Assumes nothing.
+use Prim.Native.Nat.{ℕ, _≤_, _<_}
+use borrow.Author.Tests.{ltb-true, ltb-false, leb-true, leb-false, lt-ltb, le-ltb}
+use mathlib.Core.Path.{_≡_, sym}
+use mathlib.Core.Bool.{true, false, true≢false}
+use mathlib.Core.List.{List}
+use lib.ListN.{length}
+use lib.Dec.{ltb}
+use Rattle.numbers.specs.Outcome.{refuses, outsideOf}
+use Rattle.numbers.proofs.Outcomes.{by-test, by-case}
+use Rattle.stepping.specs.Answers.{found, stepOf, answerAt}
+use Rattle.stepping.specs.Kinds.{rulesOf}
+use Rattle.stepping.specs.declared.cursor.Rules.{Rules}
+use Rattle.stepping.specs.Scalars.{valueIn, stepIn}
+use Rattle.records.specs.Buffer.{numberOf, numberIn}
+use Rattle.records.specs.Words.{bodyWords}
+use Rattle.records.proofs.Numbers.{entered-number}
+use Rattle.maps.specs.Exported.{exportedStep, exportedBody}
+use Rattle.maps.specs.Private.Inside.{insideOf}
+
+pub record Inside (s : List ℕ) (start end at kind : ℕ) : Type 0 where
+  pub low : start ≤ at
+  pub kind-is : kind ≤ 2
+  pub order : at ≤ end
+  pub high : end ≤ length s
+
+pub inside : (s : List ℕ) (start end at kind : ℕ) → insideOf s start end at kind ≡ true → Inside s start end at kind
+inside s start end at kind =
+    by-test (λ b. b ≡ true → Inside s start end at kind) (ltb at start) (λ _ e. absurd (true≢false (sym e))) (λ l.
+    by-test (λ b. b ≡ true → Inside s start end at kind) (ltb 2 kind) (λ _ e. absurd (true≢false (sym e))) (λ k.
+    by-test (λ b. b ≡ true → Inside s start end at kind) (ltb end at) (λ _ e. absurd (true≢false (sym e))) (λ o e.
+    record { low = ltb-false at start l; kind-is = ltb-false 2 kind k; order = ltb-false end at o; high = leb-true end (length s) e })))
+
+-- an exported step is a step
+pub step-is : (s : List ℕ) (start end position kind : ℕ) → start ≤ position → kind ≤ 2 → exportedStep s start end position kind ≡ answerAt (rulesOf kind) s position end
+unfolding exportedStep
+step-is s start end position kind l k = rw (le-ltb position start l, le-ltb 2 kind k)
+
+-- a step on no part is refused
+pub refused-outside : (rules : Rules) (s : List ℕ) (at end : ℕ) → outsideOf s at end ≡ true → answerAt rules s at end ≡ refuses 50 0
+unfolding stepOf found
+refused-outside rules s at end h = rw (answerAt, h)
+
+no-order : (s : List ℕ) (at end : ℕ) → end < at → outsideOf s at end ≡ true
+unfolding outsideOf
+no-order s at end h = rw (lt-ltb end at h)
+
+too-far : (s : List ℕ) (at end : ℕ) → at ≤ end → length s < end → outsideOf s at end ≡ true
+unfolding outsideOf
+too-far s at end l h = rw (le-ltb end at l, lt-ltb (length s) end h)
+
+-- and so is an exported step that is not inside
+pub step-outside : (s : List ℕ) (start end at kind : ℕ) → insideOf s start end at kind ≡ false → exportedStep s start end at kind ≡ refuses 50 0
+unfolding exportedStep
+step-outside s start end at kind h =
+    by-case (ltb at start) (λ l. rw l) (λ l.
+    rw l
+    (by-case (ltb 2 kind) (λ k. rw k) (λ k.
+    rw k
+    (refused-outside (rulesOf kind) s at end
+    (by-case (ltb end at) (λ o. no-order s at end (ltb-true end at o)) (λ o.
+    too-far s at end (ltb-false end at o) (leb-false end (length s) (rw (l, k, o) at h))))))))
+
+-- the number of an opened body's record is that of stepping in
+pub body-number : (s : List ℕ) (start end at : ℕ) → numberIn (bodyWords (exportedBody s start end at)) ≡ numberOf (stepIn s start end at)
+unfolding exportedBody stepIn
+body-number s start end at = entered-number (valueIn s start end at)

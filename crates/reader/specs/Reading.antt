@@ -1,0 +1,14 @@
+-- What a reader of a part answers.
+-- Assumes nothing.
+use Prim.Native.Nat.{ℕ}
+use mathlib.Core.List.{List}
+use lib.Dec.{ltb}
+use Rattle.numbers.specs.Outcome.{refuses, pick}
+use Rattle.stepping.specs.Answers.{Stepped, stepOf}
+use Rattle.stepping.specs.Runs.{cursor}
+use Rattle.stepping.specs.Kinds.{rulesOf}
+
+-- the step by the part's kind; 50 for a kind above 2, and the cursor stays
+unfoldable pub stepThrough : List ℕ → ℕ → ℕ → ℕ → Stepped
+stepThrough s at end kind =
+    pick (ltb 2 kind) (record { answer = refuses 50 0; next = cursor at end }) (stepOf (rulesOf kind) s (cursor at end))

@@ -1,0 +1,24 @@
+-- `number_in` meets its contract: a refusal's kind is its first word, and its number the second.
+-- Assumes nothing.
+use borrow.Author.Tests.{eq-eqb, ne-eqb}
+use borrow.Author.Needs.{needs}
+use Rattle.records.specs.Buffer.{numberIn}
+use Rattle.records.proofs.buffer.number_in.Statement.{statement}
+use Rattle.records.proofs.buffer.number_in.Tie as tie
+
+array-read-if1 : tie.Need-array-read-if1
+array-read-if1 c = search needs
+
+array-read-result : tie.Need-array-read-result
+array-read-result c = search needs
+
+returns : tie.Need-returns
+unfolding numberIn
+returns c = rw (eq-eqb _ _ (c .if1 .taken))
+
+returns-2 : tie.Need-returns-2
+unfolding numberIn
+returns-2 c = rw (ne-eqb _ _ (c .if1 .left))
+
+pub number-in-spec : {M : Type 1} → statement M
+number-in-spec = tie.close (tie.spec array-read-if1 array-read-result returns returns-2)

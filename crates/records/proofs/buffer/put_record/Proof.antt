@@ -1,0 +1,38 @@
+-- `put_record` meets its contract: nothing is put where there is no room, and else the record's words at the buffer's start.
+-- Assumes nothing.
+use borrow.Author.Tests.{lt-ltb, le-ltb}
+use borrow.Author.Needs.{needs}
+use Prim.Native.Nat.{_≤_}
+use mathlib.Core.Path.{_≡_, _∙_}
+use lib.ListN.{length}
+use Rattle.records.specs.Buffer.{recordWords, recordSize, recordIn, returnedBy}
+use Rattle.records.proofs.Storing.{record-is}
+use Rattle.records.proofs.buffer.put_record.Statement.{statement}
+use Rattle.records.proofs.buffer.put_record.Tie as tie
+
+returns : tie.Need-returns
+unfolding recordIn returnedBy
+returns c = (rw (lt-ltb _ _ (c .if1 .taken)), (rw (lt-ltb _ _ (c .if1 .taken))))
+
+put-words-requires : tie.Need-put-words-requires
+put-words-requires c κs = search needs
+
+number-in-requires : tie.Need-number-in-requires
+number-in-requires c κs = search needs
+
+same-length : tie.Need-same-length
+same-length c = search needs
+
+returns-2 : tie.Need-returns-2
+unfolding returnedBy
+returns-2 c =
+    let q = c .before .before .before in
+    let b = q .before .before .before in
+    let a = b .before .before .args in
+    let n : length (a .t2) ≡ recordWords = search needs in
+    let m : recordSize ≤ length (a .out .now) = b .if1 .left in
+    (rw (le-ltb (length (a .out .now)) recordSize m) (c .number-in .ensures), q .put-words .ensures ∙ record-is (a .t2) (a .out .now) n m)
+
+pub put-record-spec : {M : Type 1} → statement M
+put-record-spec =
+    tie.close (tie.spec returns put-words-requires number-in-requires same-length returns-2)

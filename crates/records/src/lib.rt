@@ -1,0 +1,3 @@
+// The records that exported functions fill: their words, the bytes of these, and putting them into a lent buffer.
+pub mod buffer;
+pub mod words;

@@ -1,0 +1,9 @@
+pub mod Nest
+pub mod Standing
+pub mod Over
+pub mod Same
+pub mod Apart
+pub mod Machine
+pub mod Values
+pub mod Entries
+pub mod Program

@@ -1,0 +1,4 @@
+pub mod Reached
+pub mod Theorems
+pub mod Machine
+pub mod Program

@@ -1,0 +1,5 @@
+pub mod Seeking
+pub mod Counting
+pub mod Unrolled
+pub mod Exact
+pub mod Ending

@@ -1,0 +1,95 @@
+-- `meet` meets its contract: the name that is read, what stands behind it, and its refusal are a step's, by the laws of a step by its name.
+-- Assumes nothing.
+use borrow.Author.Needs.{needs}
+use native.Mathlib.Omega.{arith}
+use mathlib.Core.Path.{_≡_, _∙_, sym, ap}
+use lib.ListN.{getD}
+use Rattle.numbers.specs.Outcome.{gives}
+use Rattle.numbers.specs.Answers.{Unsigned}
+use Rattle.framing.specs.Spans.{Spans}
+use Rattle.framing.specs.ShortValue.{bareSpans}
+use Rattle.framing.specs.Read.{shortValueRead}
+use Rattle.stepping.specs.Names.{nameAt, itemBy}
+use Rattle.stepping.specs.Read.{namedRead}
+use Rattle.stepping.proofs.Plain.{NameIn, name-in, named-stepped, short-stepped, unnamed-stepped}
+use Rattle.walking.proofs.walk.meet.Statement.{statement}
+use Rattle.walking.proofs.walk.meet.Tie as tie
+
+-- the name that was read
+abbrev name : tie.After-id → Unsigned
+name c = record { value = c .id .given .0 .0; next = c .id .given .0 .1 .0 }
+
+named : (c : tie.After-id) → let a = c .before .before .before .before .args in nameAt (a .rules) (a .s .now) (a .at) (a .end) ≡ gives (name c)
+named c = sym (c .before .before .read-name .ensures) ∙ ap namedRead (c .id .given .1)
+
+bounds : (c : tie.After-id) → let a = c .before .before .before .before .args in NameIn (a .at) (a .end) (name c)
+bounds c =
+    let q = c .before .before .before .before in
+    name-in (q .args .rules) (q .args .s .now) (q .args .at) (q .args .end) (q .pre .0) (name c) (named c)
+
+read-name-requires : tie.Need-read-name-requires
+read-name-requires c κs = search needs
+
+enum-known-id : tie.Need-enum-known-id
+enum-known-id c = search needs
+
+short-at-requires : tie.Need-short-at-requires
+short-at-requires c κs = (bounds (c .before) .high, c .before .before .before .before .before .pre .1)
+
+enum-known-body : tie.Need-enum-known-body
+enum-known-body c = search needs
+
+shared-slice-read-bare-value : tie.Need-shared-slice-read-bare-value
+shared-slice-read-bare-value c =
+    let k = c .before .before .before .before .before .before in
+    omega (arith, bounds k .high, k .before .before .before .before .pre .1)
+
+bare-value-requires : tie.Need-bare-value-requires
+bare-value-requires c κs = search needs
+
+enum-told : tie.Need-enum-told
+enum-told c = search needs
+
+enum-told-2 : tie.Need-enum-told-2
+enum-told-2 c = search needs
+
+returns : tie.Need-returns
+returns c =
+    let b = c .before .before .before in
+    let k = b .before .before .before .before in
+    let q = k .before .before .before .before in
+    let a = q .args in
+    let u = name k in
+    let byte = getD (a .s .now) (u .next) 0 in
+    let v : Spans = bareSpans byte (u .next) (b .body .given .0 .0) (b .body .given .0 .1 .0) in
+    let short = b .before .before .short-at .ensures v (ap (shortValueRead byte (u .next)) (b .body .given .1)) in
+    (u .value, short-stepped (a .rules) (a .s .now) (a .at) (a .end) (q .pre .0) (q .pre .1) u (named k) v short ∙ ap (λ (x : Spans). gives (itemBy (a .rules) (a .at) (u .value) x)) (sym (c .bare-value .ensures)))
+
+returns-2 : tie.Need-returns-2
+returns-2 c =
+    let k = c .before .before .before .before in
+    let q = k .before .before .before .before in
+    named-stepped (q .args .rules) (q .args .s .now) (q .args .at) (q .args .end) (q .pre .0) (name k) (named k)
+
+returns-3 : tie.Need-returns-3
+returns-3 c =
+    let r = c .before .before in
+    let q = r .before .before in
+    let e = sym (r .read-name .ensures) ∙ ap namedRead (c .enum-told2 .given .1) in
+    (_, _, unnamed-stepped (q .args .rules) (q .args .s .now) (q .args .at) (q .args .end) (q .pre .0) (q .pre .1) e)
+
+pub meet-spec : {M : Type 1} → statement M
+meet-spec =
+    tie.close
+    (tie.spec
+    read-name-requires
+    enum-known-id
+    short-at-requires
+    enum-known-body
+    shared-slice-read-bare-value
+    bare-value-requires
+    enum-told
+    enum-told-2
+    returns
+    returns-2
+    returns-3)

@@ -1,0 +1,52 @@
+-- `pass_value` meets its contract: each return is a case of the state behind a value.
+-- Assumes nothing.
+use borrow.Author.Tests.{eq-eqb, ne-eqb, not-true, not-false}
+use native.Mathlib.Numerals.{add-one}
+use mathlib.Core.Path.{refl, _∙_, sym}
+use Rattle.walking.specs.Calls.{pastValue}
+use borrow.Author.Needs.{needs}
+use Rattle.walking.proofs.walk.pass_value.Statement.{statement}
+use Rattle.walking.proofs.walk.pass_value.Tie as tie
+
+is-container-requires : tie.Need-is-container-requires
+is-container-requires c κs = search needs
+
+returns : tie.Need-returns
+unfolding pastValue
+returns c = rw (sym (c .before .is-container .ensures) ∙ not-true _ (c .if1 .taken))
+
+returns-2 : tie.Need-returns-2
+unfolding pastValue
+returns-2 c =
+    rw (sym (c .before .before .is-container .ensures) ∙ not-false _ (c .before .if1 .left), eq-eqb _ _ (c .if2 .taken))
+
+add-inner : tie.Need-add-inner
+add-inner c = search needs
+
+mul-ends : tie.Need-mul-ends
+mul-ends c = search needs
+
+element-write-ends : tie.Need-element-write-ends
+element-write-ends c = search needs
+
+element-write-fields : tie.Need-element-write-fields
+element-write-fields c = search needs
+
+returns-3 : tie.Need-returns-3
+unfolding pastValue
+returns-3 c =
+    let d = c .before in
+    rw (sym (d .before .before .is-container .ensures) ∙ not-false _ (d .before .if1 .left), ne-eqb _ _ (d .if2 .left), add-one (d .before .before .before .args .depth)) refl
+
+pub pass-value-spec : {M : Type 1} → statement M
+pass-value-spec =
+    tie.close
+    (tie.spec
+    is-container-requires
+    returns
+    returns-2
+    add-inner
+    mul-ends
+    element-write-ends
+    element-write-fields
+    returns-3)

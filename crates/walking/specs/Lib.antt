@@ -1,0 +1,4 @@
+pub mod Walk
+pub mod Calls
+pub mod Theorems
+pub mod Private

@@ -1,0 +1,2 @@
+// Walks whole maps of the Ion 1.0 binary encoding.
+pub mod walk;
