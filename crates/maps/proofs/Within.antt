@@ -12,7 +12,7 @@ use Rattle.numbers.proofs.Outcomes.{by-test, by-case}
 use Rattle.stepping.specs.Answers.{found, stepOf, answerAt}
 use Rattle.stepping.specs.Kinds.{rulesOf}
 use Rattle.stepping.specs.declared.cursor.Rules.{Rules}
-use Rattle.stepping.specs.Scalars.{valueIn, stepIn}
+use Rattle.values.specs.Scalars.{valueIn, stepIn}
 use Rattle.records.specs.Buffer.{numberOf, numberIn}
 use Rattle.records.specs.Words.{bodyWords}
 use Rattle.records.proofs.Numbers.{entered-number}

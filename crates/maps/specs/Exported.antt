@@ -9,7 +9,7 @@ use Rattle.framing.specs.Answers.{Annotated, readAnnotation}
 use Rattle.stepping.specs.Items.{Item}
 use Rattle.stepping.specs.Answers.{answerAt}
 use Rattle.stepping.specs.Kinds.{rulesOf}
-use Rattle.stepping.specs.Scalars.{valueIn}
+use Rattle.values.specs.Scalars.{valueIn}
 use Rattle.records.specs.Words.{Entered, enter, Number, ofUnsigned, ofSigned, ofFixed}
 
 -- "Exported steps take slice, body start, body end, position" and the part's kind. 50: "parts or positions outside the slice, out of order, a part kind above

@@ -5,7 +5,7 @@ ghost use lib.ListN.{length, take};
 ghost use Rattle.numbers.specs.Outcome.{refuses};
 ghost use Rattle.stepping.specs.Answers.{answerAt};
 ghost use Rattle.stepping.specs.Read.{itemRead};
-ghost use Rattle.stepping.specs.Scalars.{stepIn, readScalar, readWithValue};
+ghost use Rattle.values.specs.Scalars.{stepIn, readScalar, readWithValue};
 ghost use Rattle.walking.specs.Walk.{whole};
 ghost use Rattle.walking.specs.Calls.{itemsIn};
 ghost use Rattle.records.specs.Buffer.{recordIn, returned};
@@ -43,10 +43,10 @@ use stepping::cursor::item_from;
 use stepping::cursor::item_of;
 use stepping::cursor::read_name;
 use stepping::cursor::rules_of;
-use stepping::value::ValueRead;
-use stepping::value::open;
-use stepping::value::read_with_value;
-use stepping::value::value_in;
+use values::value::ValueRead;
+use values::value::open;
+use values::value::read_with_value;
+use values::value::value_in;
 use walking::walk::count_items;
 
 // The most that a number's form can be.

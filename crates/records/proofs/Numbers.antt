@@ -9,7 +9,7 @@ use Rattle.numbers.specs.Outcome.{Outcome, gives, refuses, andThen, pick}
 use Rattle.framing.specs.Spans.{Spans}
 use Rattle.framing.specs.Answers.{Annotated, ident, finished}
 use Rattle.stepping.specs.Items.{Item, finish, marker, value, field}
-use Rattle.stepping.specs.Scalars.{valueIn, Opened, opened, Scalar, scalarOf, readScalar, withValue, readWithValue}
+use Rattle.values.specs.Scalars.{valueIn, Opened, opened, Scalar, scalarOf, readScalar, withValue, readWithValue}
 use Rattle.records.specs.Words.{words, annotationWords, enteredAt, enter, bodyWords, scalarWords, readingWords, Number, numberWords}
 use Rattle.records.specs.Buffer.{recordSize, numberOf, returned, numberIn, returnedBy}
 

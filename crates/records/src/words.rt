@@ -3,7 +3,8 @@ ghost use mathlib.Core.Path.{_≡_};
 ghost use mathlib.Core.List.{[], _∷_};
 ghost use Rattle.numbers.specs.Outcome.{andThen};
 ghost use Rattle.framing.specs.Read.{annotationRead, spansOf};
-ghost use Rattle.stepping.specs.Read.{bodyRead, itemRead, scalarRead};
+ghost use Rattle.stepping.specs.Read.{itemRead};
+ghost use Rattle.values.specs.Read.{bodyRead, scalarRead};
 ghost use Rattle.records.specs.Words.{words, valueWords, endWords, refusedWords, annotationWords, enteredAt, bodyWords, oneIf, scalarWords};
 use crate::buffer::RECORD_WORDS;
 use crate::buffer::REFUSED;
@@ -13,8 +14,8 @@ use numbers::refusal::OUTSIDE;
 use numbers::refusal::Refusal;
 use stepping::cursor::Item;
 use stepping::cursor::kind_of;
-use stepping::value::Body;
-use stepping::value::Scalar;
+use values::value::Body;
+use values::value::Scalar;
 
 fn wide(x: u8) -> u64
     ensures { λ r. ⌜ r ≡ x ⌝ }

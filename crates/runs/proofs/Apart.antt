@@ -20,7 +20,6 @@ use Rattle.framing.proofs.Bounds.{Ordered, read-value-each}
 use Rattle.framing.proofs.Looked.{value-same, annotation-same}
 use Rattle.stepping.specs.Items.{Item, itemEnd}
 use Rattle.stepping.specs.Answers.{Tile, skip, tileAt, Found, found, after, Stepped, stepOf}
-use Rattle.stepping.specs.Scalars.{valueIn, isContainer, stepIn, scalarOf, readScalar, partOf, scalarPart}
 use Rattle.stepping.specs.Runs.{cursor, Answers, Run, none, call}
 use Rattle.runs.specs.Reached.{ValueOf, a-value, a-field, itemStart, Part, whole, inner, Handed, left, Body, of-value, of-pad, In, Agree, Outside, NotOwner, EntryAt, past, AnnotationRun, none as no-more, call as one-more, Annotations}
 use Rattle.runs.specs.Theorems.{Apart}
@@ -28,11 +27,12 @@ use Rattle.stepping.specs.declared.cursor.Cursor.{Cursor}
 use Rattle.stepping.specs.declared.cursor.Rules.{Rules}
 use Rattle.stepping.specs.declared.cursor.Rules.the-variants.{Stream}
 use Rattle.stepping.proofs.Walking.{Walks, at-end, at-pad, at-item, at-refusal, Finds, unfit, fit, finds, of-finds}
+use Rattle.values.specs.Scalars.{valueIn, isContainer, stepIn, scalarOf, readScalar, partOf, scalarPart}
+use Rattle.values.proofs.Reading.{value-in-slice}
 use Rattle.runs.proofs.Nest as nest
 use Rattle.runs.proofs.Nest.{Place, stay, on, Under, Clear, rest, head, Placed, Beside, left as to-left, right as to-right, inside, owner, holds}
 use Rattle.runs.proofs.Standing.{Standing, placeOf, valuePlace, closedPlace, order, one, To, called, ItemStands, item-stands, item-standing, led, pad-stands, nested, under}
 use Rattle.runs.proofs.Over.{tile-all-same, tile-head-same}
-use Rattle.stepping.proofs.Reading.{value-in-slice}
 use Rattle.runs.proofs.Same.{ValueStands, value-stands, Afresh, afresh, scalar-same, part-same-body, container-read}
 
 -- ---- a run on the other map

@@ -22,26 +22,26 @@ use Rattle.framing.proofs.annotations_iterator.Annotation.Laws as annotation-la
 use Rattle.framing.proofs.annotations_iterator.read_annotation as annotation
 use Rattle.framing.proofs.annotations_iterator.read_annotation.Symbol as annotation-symbol
 use Rattle.framing.proofs.annotations_iterator.read_annotation.Met as annotation-met
-use Rattle.stepping.specs.Scalars.{Opened, stepIn, Scalar, null, bool, int, float, decimal, timestamp, symbol, string, clob, blob, container, readScalar}
-use Rattle.stepping.specs.Read.{bodyRead, scalarRead}
 use Rattle.stepping.specs.Runs.{cursor}
 use Rattle.stepping.specs.declared.cursor.Rules.{Rules}
 use Rattle.stepping.specs.declared.cursor.Rules.the-variants.{Stream, Sequence, Fields}
-use Rattle.stepping.specs.declared.value.Body.{Body}
-use Rattle.stepping.specs.declared.value.Body.the-variants.{Open, Refused as BodyRefused}
-use Rattle.stepping.specs.declared.value.Scalar.{Scalar as ScalarEnum}
-use Rattle.stepping.specs.declared.value.Scalar.the-variants.{Null, Bool, Int, Float, Decimal, Timestamp, Symbol, Text, Clob, Blob, Container, Refused as ScalarRefused}
+use Rattle.values.specs.Scalars.{Opened, stepIn, Scalar, null, bool, int, float, decimal, timestamp, symbol, string, clob, blob, container, readScalar}
+use Rattle.values.specs.Read.{bodyRead, scalarRead}
+use Rattle.values.specs.declared.value.Body.{Body}
+use Rattle.values.specs.declared.value.Body.the-variants.{Open, Refused as BodyRefused}
+use Rattle.values.specs.declared.value.Scalar.{Scalar as ScalarEnum}
+use Rattle.values.specs.declared.value.Scalar.the-variants.{Null, Bool, Int, Float, Decimal, Timestamp, Symbol, Text, Clob, Blob, Container, Refused as ScalarRefused}
+use Rattle.values.proofs.value.Body.Laws as body-laws
+use Rattle.values.proofs.value.step_in as entering
+use Rattle.values.proofs.value.step_in.Symbol as entering-symbol
+use Rattle.values.proofs.value.step_in.Met as entering-met
+use Rattle.values.proofs.value.Scalar.Laws as scalar-laws
+use Rattle.values.proofs.value.read as reading
+use Rattle.values.proofs.value.read.Symbol as reading-symbol
+use Rattle.values.proofs.value.read.Met as reading-met
 use Rattle.runs.specs.Program.{Annotates, Enters, Reads}
 use Rattle.runs.proofs.Machine as machine
 use Rattle.runs.proofs.Values.{num, bit, parts, nth, choose}
-use Rattle.stepping.proofs.value.Body.Laws as body-laws
-use Rattle.stepping.proofs.value.step_in as entering
-use Rattle.stepping.proofs.value.step_in.Symbol as entering-symbol
-use Rattle.stepping.proofs.value.step_in.Met as entering-met
-use Rattle.stepping.proofs.value.Scalar.Laws as scalar-laws
-use Rattle.stepping.proofs.value.read as reading
-use Rattle.stepping.proofs.value.read.Symbol as reading-symbol
-use Rattle.stepping.proofs.value.read.Met as reading-met
 
 field : ℕ → Val → Val
 field i v = nth i (parts v)

@@ -23,7 +23,6 @@ use Rattle.stepping.specs.Items.{Item as Answer, finish, marker, value, field}
 use Rattle.stepping.specs.Answers.{Stepped, stepOf}
 use Rattle.stepping.specs.Read.{itemRead, stepRead}
 use Rattle.stepping.specs.Runs.{cursor, Answers, Run, none, call}
-use Rattle.stepping.specs.Scalars.{partOf, scalarPart}
 use Rattle.runs.specs.Reached.{Part, whole, inner, Handed, Body, of-value, of-pad, AnnotationRun, none as no-more, call as one-more}
 use Rattle.stepping.specs.declared.cursor.Cursor.{Cursor}
 use Rattle.stepping.specs.declared.cursor.Rules.{Rules}
@@ -47,6 +46,7 @@ use Rattle.stepping.proofs.cursor.Cursor.next_in_sequence.Met as in-sequence-me
 use Rattle.stepping.proofs.cursor.Cursor.next_in_struct as in-struct
 use Rattle.stepping.proofs.cursor.Cursor.next_in_struct.Symbol as in-struct-symbol
 use Rattle.stepping.proofs.cursor.Cursor.next_in_struct.Met as in-struct-met
+use Rattle.values.specs.Scalars.{partOf, scalarPart}
 
 -- a step, read back from its machine value
 read-refusal : Val → Refusal

@@ -26,13 +26,13 @@ use Rattle.framing.proofs.Bounds.{Ordered, read-value-each}
 use Rattle.framing.proofs.Looked.{FrameIs, pad-is, value-is, frame-is}
 use Rattle.stepping.specs.Items.{Item, marker, value, field}
 use Rattle.stepping.specs.Answers.{Tile, hand, markerAt, framedAt, asTile, namedAt, asField, fieldAt, tileAt}
-use Rattle.stepping.specs.Scalars.{typeOf, codeOf, isContainer, Scalar, container, boolOf, positiveOf, negativeOf, floatOf, symbolOf, stringOf, typedOf, scalarOf, spanOf, partOf}
 use Rattle.bodies.specs.Utf8.{utf8}
 use Rattle.bodies.specs.Magnitude.{significantFrom}
 use Rattle.runs.specs.Reached.{ValueOf, a-value, a-field, itemStart, EntryAt}
 use Rattle.stepping.specs.declared.cursor.Rules.{Rules}
 use Rattle.stepping.specs.declared.cursor.Rules.the-variants.{Stream, Sequence, Fields}
-use Rattle.stepping.proofs.Reading.{InSlice}
+use Rattle.values.specs.Scalars.{typeOf, codeOf, isContainer, Scalar, container, boolOf, positiveOf, negativeOf, floatOf, symbolOf, stringOf, typedOf, scalarOf, spanOf, partOf}
+use Rattle.values.proofs.Reading.{InSlice}
 use Rattle.bodies.proofs.Leading.{significant-begins, significant-same}
 use Rattle.bodies.proofs.BigEndian.{uint-same}
 use Rattle.bodies.proofs.Rows.{utf8-same}

@@ -11,7 +11,6 @@ use Rattle.framing.specs.Spans.{Spans}
 use Rattle.framing.proofs.Bounds.{value-in}
 use Rattle.stepping.specs.Items.{Item, finish, marker, value, field, itemEnd, Pad}
 use Rattle.stepping.specs.Answers.{Tile, skip, hand, tileAt, Found, found, after, Stepped, stepOf}
-use Rattle.stepping.specs.Scalars.{isContainer, bodyRules}
 use Rattle.stepping.specs.Runs.{cursor, Answers, Run, none, call, handedOut, items}
 use Rattle.runs.specs.Reached.{ValueOf, a-value, a-field, Part, whole, inner, left, Body, of-value, of-pad}
 use Rattle.stepping.specs.declared.cursor.Cursor.{Cursor}
@@ -19,6 +18,7 @@ use Rattle.stepping.specs.declared.cursor.Rules.{Rules}
 use Rattle.stepping.specs.declared.cursor.Rules.the-variants.{Stream, Sequence}
 use Rattle.stepping.proofs.Walking.{Walks, at-end, at-pad, at-item, at-refusal, Finds, unfit, fit, finds}
 use Rattle.stepping.proofs.Places.{ValueIn, a-marker, a-value as value-in, a-field as field-in, TileIn, skip-in, hand-in, tile-in}
+use Rattle.values.specs.Scalars.{isContainer, bodyRules}
 use Rattle.runs.proofs.Nest as nest
 use Rattle.runs.proofs.Nest.{Place, From, stay, on, Nest, Under}
 

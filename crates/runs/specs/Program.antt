@@ -18,15 +18,12 @@ use Rattle.framing.proofs.annotations_iterator.Annotation.Laws as annotation-la
 use Rattle.framing.proofs.annotations_iterator.read_annotation as annotation
 use Rattle.framing.proofs.annotations_iterator.read_annotation.Symbol as annotation-symbol
 use Rattle.stepping.specs.Answers.{Stepped}
-use Rattle.stepping.specs.Read.{bodyRead, scalarRead, stepRead}
+use Rattle.stepping.specs.Read.{stepRead}
 use Rattle.stepping.specs.Runs.{cursor, Run, Tiled}
-use Rattle.stepping.specs.Scalars.{Opened, Scalar, partOf}
 use Rattle.stepping.specs.declared.cursor.Cursor.{Cursor}
 use Rattle.stepping.specs.declared.cursor.Rules.{Rules}
 use Rattle.stepping.specs.declared.cursor.Rules.the-variants.{Stream, Sequence, Fields}
 use Rattle.stepping.specs.declared.cursor.Step.{Step}
-use Rattle.stepping.specs.declared.value.Body.{Body as BodyEnum}
-use Rattle.stepping.specs.declared.value.Scalar.{Scalar as ScalarEnum}
 use Rattle.stepping.proofs.cursor.Step.Laws.{lowers}
 use Rattle.stepping.proofs.cursor.Cursor.next_in_stream as in-stream
 use Rattle.stepping.proofs.cursor.Cursor.next_in_stream.Symbol as in-stream-symbol
@@ -34,12 +31,16 @@ use Rattle.stepping.proofs.cursor.Cursor.next_in_sequence as in-sequence
 use Rattle.stepping.proofs.cursor.Cursor.next_in_sequence.Symbol as in-sequence-symbol
 use Rattle.stepping.proofs.cursor.Cursor.next_in_struct as in-struct
 use Rattle.stepping.proofs.cursor.Cursor.next_in_struct.Symbol as in-struct-symbol
-use Rattle.stepping.proofs.value.Body.Laws as body-laws
-use Rattle.stepping.proofs.value.step_in as entering
-use Rattle.stepping.proofs.value.step_in.Symbol as entering-symbol
-use Rattle.stepping.proofs.value.Scalar.Laws as scalar-laws
-use Rattle.stepping.proofs.value.read as reading
-use Rattle.stepping.proofs.value.read.Symbol as reading-symbol
+use Rattle.values.specs.Read.{bodyRead, scalarRead}
+use Rattle.values.specs.Scalars.{Opened, Scalar, partOf}
+use Rattle.values.specs.declared.value.Body.{Body as BodyEnum}
+use Rattle.values.specs.declared.value.Scalar.{Scalar as ScalarEnum}
+use Rattle.values.proofs.value.Body.Laws as body-laws
+use Rattle.values.proofs.value.step_in as entering
+use Rattle.values.proofs.value.step_in.Symbol as entering-symbol
+use Rattle.values.proofs.value.Scalar.Laws as scalar-laws
+use Rattle.values.proofs.value.read as reading
+use Rattle.values.proofs.value.read.Symbol as reading-symbol
 use Rattle.runs.specs.Machine as machine
 use Rattle.runs.specs.Reached.{Body, Agree, In, SameAnswers}
 

@@ -11,11 +11,11 @@ use Rattle.framing.specs.Spans.{Spans}
 use Rattle.framing.specs.Answers.{Annotated, ident, finished, readAnnotation}
 use Rattle.stepping.specs.Items.{Item, finish, marker, value, field, itemEnd, Pad}
 use Rattle.stepping.specs.Answers.{found, Stepped}
-use Rattle.stepping.specs.Scalars.{isContainer, bodyRules, Opened, stepIn, Scalar, readScalar, scalarPart}
 use Rattle.stepping.specs.Runs.{cursor, Run, items}
 use Rattle.stepping.specs.declared.cursor.Cursor.{Cursor}
 use Rattle.stepping.specs.declared.cursor.Rules.{Rules}
 use Rattle.stepping.specs.declared.cursor.Rules.the-variants.{Stream}
+use Rattle.values.specs.Scalars.{isContainer, bodyRules, Opened, stepIn, Scalar, readScalar, scalarPart}
 
 -- the value of an item, in a stream or a sequence and in a struct
 pub data ValueOf : Item → Spans → Type 0 where

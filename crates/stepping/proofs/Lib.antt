@@ -2,11 +2,8 @@ pub mod Places
 pub mod Walking
 pub mod Spans
 pub mod Tiling
-pub mod Reading
-pub mod Edges
 pub mod Passed
 pub mod Examples
 pub mod Moves
 pub mod Naming
-pub mod Valued
 pub mod Plain

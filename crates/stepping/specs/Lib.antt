@@ -7,6 +7,4 @@ pub mod Leaving
 pub mod Format
 pub mod Runs
 pub mod Theorems
-pub mod Scalars
-pub mod Edges
 pub mod Private

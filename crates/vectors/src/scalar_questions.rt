@@ -3,9 +3,9 @@ use crate::number_questions::refused;
 use crate::text::Line;
 use stepping::cursor::Cursor;
 use stepping::cursor::Rules;
-use stepping::value;
-use stepping::value::Body;
-use stepping::value::Scalar;
+use values::value;
+use values::value::Body;
+use values::value::Scalar;
 
 // The name of a type. That of an int is by the code 2 alone.
 pub fn type_name(line: Line, type_code: u8) -> Line {

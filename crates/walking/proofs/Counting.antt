@@ -13,9 +13,9 @@ use Rattle.framing.specs.Spans.{Spans}
 use Rattle.stepping.specs.Items.{Item, finish, marker, value, field}
 use Rattle.stepping.specs.Leaving.{isLast}
 use Rattle.stepping.specs.Names.{itemBy}
-use Rattle.stepping.specs.Scalars.{isContainer}
 use Rattle.stepping.specs.declared.cursor.Rules.{Rules}
 use Rattle.stepping.specs.declared.cursor.Rules.the-variants.{Stream, Sequence, Fields}
+use Rattle.values.specs.Scalars.{isContainer}
 use Rattle.walking.specs.Walk.{deepest, Visit, visit}
 use Rattle.walking.specs.Calls.{movedTo, pastValue, pastAnswer, past, visitOf, calls, itemsIn}
 use Rattle.walking.specs.declared.walk.Walk.{Walk}

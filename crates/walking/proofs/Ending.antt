@@ -9,11 +9,11 @@ use Rattle.numbers.specs.Outcome.{Outcome, gives}
 use Rattle.numbers.proofs.Outcomes.{by-test}
 use Rattle.framing.specs.Spans.{Spans}
 use Rattle.stepping.specs.Items.{Item, finish}
-use Rattle.stepping.specs.Scalars.{isContainer, bodyRules}
 use Rattle.stepping.specs.declared.cursor.Rules.{Rules}
 use Rattle.stepping.specs.declared.cursor.Rules.the-variants.{Stream}
 use Rattle.stepping.proofs.Places.{ValueIn, a-marker, a-value, a-field}
 use Rattle.stepping.proofs.Moves.{Moves, ends, hands, stops, moves}
+use Rattle.values.specs.Scalars.{isContainer, bodyRules}
 use Rattle.walking.specs.Walk.{deepest, Visit, visit, Inside, behind, following, walkOf, whole}
 use Rattle.walking.specs.Theorems.{Short}
 

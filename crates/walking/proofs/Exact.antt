@@ -13,13 +13,13 @@ use Rattle.numbers.specs.Outcome.{Outcome, gives, refuses, pick}
 use Rattle.numbers.proofs.Outcomes.{by-case}
 use Rattle.framing.specs.Spans.{Spans}
 use Rattle.stepping.specs.Items.{Item, finish, value, field}
-use Rattle.stepping.specs.Scalars.{isContainer, bodyRules, typeOf}
 use Rattle.stepping.specs.declared.cursor.Rules.the-variants.{Stream}
 use Rattle.stepping.proofs.Places.{ValueIn, ItemIn, a-marker, a-value, a-field}
 use Rattle.stepping.proofs.Moves.{Moves, ends, hands, stops, moves}
 use Rattle.walking.specs.Walk.{deepest, parts, Visit, visit, behind, following, whole}
 use Rattle.walking.specs.Calls.{startOf, endAt, rulesAt, orAbove, seek, movedTo, pastValue, past, visitOf, calls, stateAfter}
 use Rattle.stepping.specs.Leaving.{isLast}
+use Rattle.values.specs.Scalars.{isContainer, bodyRules, typeOf}
 use Rattle.walking.specs.Private.State.{rulesBy}
 use Rattle.walking.specs.Theorems.{Exact, NeverOutside}
 use Rattle.walking.specs.declared.walk.Walk.{Walk}

@@ -11,10 +11,10 @@ use Rattle.numbers.proofs.Outcomes.{pick-same}
 use Rattle.framing.specs.Spans.{Spans}
 use Rattle.stepping.specs.Items.{Item, marker, value, field}
 use Rattle.stepping.specs.Answers.{answerAt}
-use Rattle.stepping.specs.Scalars.{isContainer, bodyRules}
 use Rattle.stepping.specs.declared.cursor.Rules.{Rules}
 use Rattle.stepping.proofs.Places.{ValueIn, a-marker, a-value, a-field}
 use Rattle.stepping.proofs.Moves.{Moves, ends, hands, stops, moves, moves-end}
+use Rattle.values.specs.Scalars.{isContainer, bodyRules}
 use Rattle.walking.specs.Walk.{deepest, Visit, visit, Inside, behind, following, walkOf}
 
 -- two ways to go on that agree on what lies behind `at` in the part that ends at hi

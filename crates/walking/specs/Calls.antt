@@ -10,10 +10,10 @@ use Rattle.framing.specs.Spans.{Spans}
 use Rattle.stepping.specs.Items.{Item, finish, marker, value, field}
 use Rattle.stepping.specs.Answers.{answerAt}
 use Rattle.stepping.specs.Leaving.{isLast}
-use Rattle.stepping.specs.Scalars.{isContainer, typeOf}
 use Rattle.stepping.specs.Read.{itemRead}
 use Rattle.stepping.specs.declared.cursor.Rules.{Rules}
 use Rattle.stepping.specs.declared.cursor.Rules.the-variants.{Stream, Sequence, Fields}
+use Rattle.values.specs.Scalars.{isContainer, typeOf}
 use Rattle.walking.specs.Walk.{deepest, parts, Visit, visit}
 use Rattle.walking.specs.declared.walk.Walk.{Walk}
 use Rattle.walking.specs.declared.walk.Walked.{Walked}

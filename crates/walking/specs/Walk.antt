@@ -8,9 +8,9 @@ use Rattle.numbers.specs.Outcome.{Outcome, gives, refuses, pick}
 use Rattle.framing.specs.Spans.{Spans}
 use Rattle.stepping.specs.Items.{Item, finish, marker, value, field}
 use Rattle.stepping.specs.Answers.{answerAt}
-use Rattle.stepping.specs.Scalars.{isContainer, bodyRules}
 use Rattle.stepping.specs.declared.cursor.Rules.{Rules}
 use Rattle.stepping.specs.declared.cursor.Rules.the-variants.{Stream}
+use Rattle.values.specs.Scalars.{isContainer, bodyRules}
 
 -- "A non-null container at depth 32 is handed out, then 37 follows."
 abbrev pub deepest : ℕ

@@ -25,7 +25,7 @@ use stepping::cursor::is_last;
 use stepping::cursor::item_at;
 use stepping::cursor::item_from;
 use stepping::cursor::read_name;
-use stepping::value::is_container;
+use values::value::is_container;
 
 // The deepest part: a container in it is handed out and not entered.
 pub const DEEPEST: usize = 32;

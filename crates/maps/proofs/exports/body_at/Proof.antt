@@ -4,7 +4,7 @@ use mathlib.Core.Path.{_∙_, ap}
 use Rattle.numbers.specs.Outcome.{Outcome, andThen}
 use Rattle.numbers.proofs.Outcomes.{then-by}
 use Rattle.framing.specs.Read.{framedRead}
-use Rattle.stepping.specs.Scalars.{Opened}
+use Rattle.values.specs.Scalars.{Opened}
 use Rattle.records.specs.Words.{enteredAt, enter, bodyWords}
 use Rattle.maps.specs.Exported.{exportedBody}
 use borrow.Author.Needs.{needs}

@@ -5,7 +5,7 @@ use mathlib.Core.Path.{_∙_, ap}
 use mathlib.Core.List.{List}
 use Prim.Native.Nat.{ℕ}
 use Rattle.records.specs.Buffer.{recordIn, returnedBy}
-use Rattle.stepping.specs.Scalars.{readScalar, readWithValue}
+use Rattle.values.specs.Scalars.{readScalar, readWithValue}
 use Rattle.records.specs.Words.{readingWords}
 use Rattle.records.proofs.Numbers.{returned-by, reading-number}
 use Rattle.maps.proofs.exports.ion_map_scalar.Statement.{statement}

@@ -5,7 +5,7 @@ use mathlib.Core.Path.{_∙_, ap}
 use mathlib.Core.List.{List}
 use Prim.Native.Nat.{ℕ}
 use Rattle.records.specs.Buffer.{recordIn, returnedBy}
-use Rattle.stepping.specs.Scalars.{stepIn}
+use Rattle.values.specs.Scalars.{stepIn}
 use Rattle.records.specs.Words.{bodyWords}
 use Rattle.records.proofs.Numbers.{returned-by}
 use Rattle.maps.specs.Exported.{exportedBody}

@@ -1,8 +1,8 @@
 -- `scalar_at` meets its contract: the words of the reading with its value.
 -- Assumes nothing.
 use mathlib.Core.Path.{_∙_, sym, ap}
-use Rattle.stepping.specs.Read.{valueRead}
-use Rattle.stepping.specs.declared.value.ValueRead.{ValueRead}
+use Rattle.values.specs.Read.{valueRead}
+use Rattle.values.specs.declared.value.ValueRead.{ValueRead}
 use Rattle.records.specs.Words.{readingWords}
 use borrow.Author.Needs.{needs}
 use Rattle.maps.proofs.exports.scalar_at.Statement.{statement}

@@ -2,8 +2,8 @@
 -- Assumes nothing.
 use mathlib.Core.Path.{_∙_, sym, ap}
 use Rattle.numbers.specs.Outcome.{andThen}
-use Rattle.stepping.specs.Read.{bodyRead}
-use Rattle.stepping.specs.declared.value.Body.{Body}
+use Rattle.values.specs.Read.{bodyRead}
+use Rattle.values.specs.declared.value.Body.{Body}
 use Rattle.records.specs.Words.{enteredAt, bodyWords}
 use borrow.Author.Needs.{needs}
 use Rattle.records.proofs.words.body_words.Statement.{statement}

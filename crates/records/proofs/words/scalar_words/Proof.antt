@@ -2,8 +2,8 @@
 -- Assumes nothing.
 use mathlib.Core.Path.{_∙_, sym, ap}
 use Rattle.framing.specs.Read.{spansOf}
-use Rattle.stepping.specs.Read.{scalarRead}
-use Rattle.stepping.specs.declared.value.Scalar.{Scalar as ScalarEnum}
+use Rattle.values.specs.Read.{scalarRead}
+use Rattle.values.specs.declared.value.Scalar.{Scalar as ScalarEnum}
 use Rattle.records.specs.Words.{scalarWords}
 use borrow.Author.Needs.{needs}
 use Rattle.records.proofs.words.scalar_words.Statement.{statement}

@@ -1,0 +1,4 @@
+pub mod Scalars
+pub mod Read
+pub mod Edges
+pub mod Private
