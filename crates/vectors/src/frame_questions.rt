@@ -1,6 +1,5 @@
 // The answers to questions on frames: lengths, pads, wrappers, values and annotation steps.
 use crate::number_questions::refused;
-use crate::text::Line;
 use framing::annotations_iterator;
 use framing::annotations_iterator::Annotation;
 use framing::binary_buffer;
@@ -10,6 +9,7 @@ use framing::encoded_value::Frame;
 use framing::encoded_value::Framed;
 use framing::encoded_value::Length;
 use framing::encoded_value::NopPad;
+use questions::text::Line;
 
 // `length BYTES AT END`: where the value's body starts, and its length.
 fn length(s: &[u8], at: usize, end: usize) -> Line {
@@ -44,9 +44,9 @@ fn wrapper(s: &[u8], at: usize, end: usize) -> Line {
     }
 }
 
-fn places(value: EncodedValue) -> Line {
-    Line::new()
-        .word(b"value")
+// A value's own byte, and its places.
+pub fn places(line: Line, value: EncodedValue) -> Line {
+    line.word(b"value")
         .number(value.byte as u64)
         .position(value.start)
         .position(value.annotations)
@@ -55,10 +55,10 @@ fn places(value: EncodedValue) -> Line {
         .position(value.end)
 }
 
-// `value BYTES AT END`: the value's own byte, and its places.
+// `value BYTES AT END`: the value at AT.
 fn value(s: &[u8], at: usize, end: usize) -> Line {
     match binary_buffer::read_value(s, at, end) {
-        Framed::Value(value) => places(value),
+        Framed::Value(value) => places(Line::new(), value),
         Framed::Refused(refusal) => refused(refusal),
     }
 }
@@ -67,14 +67,9 @@ fn value(s: &[u8], at: usize, end: usize) -> Line {
 fn frame(s: &[u8], at: usize, end: usize) -> Line {
     match binary_buffer::read_frame(s, at, end) {
         Frame::Pad { body, end: past } => Line::new().word(b"pad").position(body).position(past),
-        Frame::Value(value) => places(value),
+        Frame::Value(value) => places(Line::new(), value),
         Frame::Refused(refusal) => refused(refusal),
     }
-}
-
-// A line that another item can follow.
-pub fn joined(line: Line) -> Line {
-    if line.len == 0 { line } else { line.word(b";") }
 }
 
 fn annotation(line: Line, step: Annotation) -> Line {
@@ -103,7 +98,7 @@ fn annotations(s: &[u8], at: usize, end: usize, count: usize) -> Line {
     let mut i = 0;
     while i < count {
         let step = annotations_iterator::read_annotation(s, from, end);
-        line = annotation(joined(line), step);
+        line = annotation(line.joined(), step);
         from = cursor(from, step);
         i += 1;
     }

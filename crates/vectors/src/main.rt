@@ -1,30 +1,15 @@
-// Answers the questions of the files that its arguments name, and compares each answer with the one written there.
-//
-// A line is `QUESTION = ANSWER`; empty lines and those that begin with `#` are passed over. For each file it writes how
-// many answers agree and how many differ, and each one that differs. Where the file says `unsupported` there is nothing to
-// compare with.
-ghost use mathlib.Core.Path.{_≡_};
-ghost use lib.ListN.{length};
-
+// Answers the questions of the files that its arguments name on the layers below the exports, and compares each answer with
+// the one written there: for each file it writes how many agree and how many differ, and each one that differs.
 mod frame_questions;
 mod number_questions;
-mod record_questions;
 mod scalar_questions;
 mod step_questions;
-mod text;
 mod walk_questions;
 
-use libc::STDOUT_FILENO;
-use text::Line;
-
-pub struct Tally {
-    pub agree: u64,
-    pub differ: u64,
-}
-
-fn more(n: u64) -> u64 {
-    if n < u64::MAX { n + 1 } else { n }
-}
+use questions::comparing;
+use questions::comparing::Tally;
+use questions::text;
+use questions::text::Line;
 
 // The answer to a question: a word for what is asked, the bytes in hexadecimal, and numbers.
 fn answer(line: &[u8]) -> Line {
@@ -35,20 +20,9 @@ fn answer(line: &[u8]) -> Line {
     let b = text::number(text::word(line, 3));
     let c = text::number(text::word(line, 4));
     let asked = text::word(line, 0);
-    if check::same(asked, b"varuint") {
-        return number_questions::var_uint(s, a, b);
-    }
-    if check::same(asked, b"varint") {
-        return number_questions::var_int(s, a, b);
-    }
-    if check::same(asked, b"int") {
-        return number_questions::int(s, a, b, c);
-    }
-    if check::same(asked, b"intparts") {
-        return number_questions::int_parts(s, a, b, c);
-    }
-    if check::same(asked, b"descriptor") {
-        return number_questions::descriptor(s);
+    let on_numbers = number_questions::answer(asked, s, a, b, c);
+    if 0 < on_numbers.len {
+        return on_numbers;
     }
     let on_frames = frame_questions::answer(asked, s, a, b, c);
     if 0 < on_frames.len {
@@ -62,59 +36,10 @@ fn answer(line: &[u8]) -> Line {
     if 0 < on_values.len {
         return on_values;
     }
-    if check::same(asked, b"record") {
-        let kind = text::number(text::word(line, 5));
-        let size = text::number(text::word(line, 6));
-        return record_questions::record_of(s, a, b, c, kind as u64, size);
-    }
     if check::same(asked, b"walk") {
         return walk_questions::walk(s, a, b);
     }
     Line::new().word(b"no such question")
-}
-
-// Our answer to compare with the one expected. The oracle says a refusal of the part itself once, whatever the count of
-// steps is; of ours the first item is compared with it.
-fn said_once<'a>(expected: &[u8], ours: &'a [u8]) -> &'a [u8] {
-    if check::same(expected, b"refused 50 0 !") {
-        return text::first_item(ours);
-    }
-    ours
-}
-
-// Compares one line's answer with ours, and writes it where they differ.
-fn compare(line: &[u8], tally: Tally) -> Tally {
-    if line.len() == 0 {
-        return tally;
-    }
-    if line[0] == b'#' {
-        return tally;
-    }
-    let made = answer(line);
-    let expected = text::part(
-        line,
-        text::after(text::after(text::find(line, 0, b'='))),
-        line.len(),
-    );
-    if check::same(expected, b"unsupported") {
-        return tally;
-    }
-    let bytes = made.bytes;
-    let ours = said_once(expected, text::part(&bytes, 0, made.len));
-    if text::agrees(expected, ours) {
-        return Tally {
-            agree: more(tally.agree),
-            differ: tally.differ,
-        };
-    }
-    io::write_all(STDOUT_FILENO, line);
-    io::write_all(STDOUT_FILENO, b"\n  but we answer ");
-    io::write_all(STDOUT_FILENO, ours);
-    io::write_all(STDOUT_FILENO, b"\n");
-    Tally {
-        agree: tally.agree,
-        differ: more(tally.differ),
-    }
 }
 
 fn compare_all(file: &[u8]) -> Tally {
@@ -125,7 +50,8 @@ fn compare_all(file: &[u8]) -> Tally {
     let mut at = 0;
     while at < file.len() {
         let end = text::find(file, at, b'\n');
-        tally = compare(text::part(file, at, end), tally);
+        let line = text::part(file, at, end);
+        tally = comparing::compare(line, answer(line), tally);
         if file.len() <= end {
             return tally;
         }
@@ -134,29 +60,10 @@ fn compare_all(file: &[u8]) -> Tally {
     tally
 }
 
-// Room for a file: the most bytes of it that are read.
-fn room() -> [u8; 262144]
-    ensures { λ r. ⌜ 262144 ≡ length r ⌝ }
-{
-    [0; 262144]
-}
-
 fn report(name: &[u8]) {
-    let file = os::open_read(name);
-    if file < 0 {
-        os::fail(name);
-        return;
-    }
-    let mut space = room();
-    let n = io::read_full(file, &mut space);
-    libc::close(file);
-    let tally = compare_all(&space[..n]);
-    io::write_all(STDOUT_FILENO, name);
-    io::write_all(STDOUT_FILENO, b": ");
-    io::print_decimal(STDOUT_FILENO, tally.agree);
-    io::write_all(STDOUT_FILENO, b" agree, ");
-    io::print_decimal(STDOUT_FILENO, tally.differ);
-    io::write_all(STDOUT_FILENO, b" differ\n");
+    let mut space = comparing::room();
+    let n = comparing::read_file(name, &mut space);
+    comparing::write_tally(name, compare_all(text::part(&space, 0, n)));
 }
 
 fn main() {

@@ -1,6 +1,4 @@
 // The answers to questions on numbers and descriptors.
-use crate::text;
-use crate::text::Line;
 use numbers::binary_buffer;
 use numbers::int::Int;
 use numbers::refusal::Refusal;
@@ -8,6 +6,7 @@ use numbers::type_descriptor::Kind;
 use numbers::type_descriptor::TypeDescriptor;
 use numbers::var_int::VarInt;
 use numbers::var_uint::VarUInt;
+use questions::text::Line;
 
 pub fn refused(refusal: Refusal) -> Line {
     Line::new()
@@ -25,7 +24,7 @@ fn sign(negative: bool) -> Line {
 }
 
 // `varuint BYTES AT END`: the value, and where the number ends.
-pub fn var_uint(s: &[u8], at: usize, end: usize) -> Line {
+fn var_uint(s: &[u8], at: usize, end: usize) -> Line {
     match binary_buffer::read_var_uint(s, at, end) {
         VarUInt::Value { value, next } => Line::new().position(value).position(next),
         VarUInt::Refused(refusal) => refused(refusal),
@@ -33,7 +32,7 @@ pub fn var_uint(s: &[u8], at: usize, end: usize) -> Line {
 }
 
 // `varint BYTES AT END`: sign, magnitude, and where the number ends.
-pub fn var_int(s: &[u8], at: usize, end: usize) -> Line {
+fn var_int(s: &[u8], at: usize, end: usize) -> Line {
     match binary_buffer::read_var_int(s, at, end) {
         VarInt::Value {
             negative,
@@ -45,7 +44,7 @@ pub fn var_int(s: &[u8], at: usize, end: usize) -> Line {
 }
 
 // `intparts BYTES AT END LENGTH`: sign, the low seven bits of the first byte, and the span of the bytes after it.
-pub fn int_parts(s: &[u8], at: usize, end: usize, length: usize) -> Line {
+fn int_parts(s: &[u8], at: usize, end: usize, length: usize) -> Line {
     match binary_buffer::read_int(s, at, end, length) {
         Int::Value {
             negative,
@@ -81,7 +80,7 @@ fn magnitude(line: Line, first: u8, rest: &[u8]) -> Line {
 }
 
 // `int BYTES AT END LENGTH`: sign, magnitude, and where the number ends.
-pub fn int(s: &[u8], at: usize, end: usize, length: usize) -> Line {
+fn int(s: &[u8], at: usize, end: usize, length: usize) -> Line {
     match binary_buffer::read_int(s, at, end, length) {
         Int::Value {
             negative,
@@ -111,7 +110,7 @@ fn kind(line: Line, kind: Kind) -> Line {
 }
 
 // `descriptor BYTE`: type code, length code and kind.
-pub fn descriptor(s: &[u8]) -> Line {
+fn descriptor(s: &[u8]) -> Line {
     if s.len() == 0 {
         return Line::new().word(b"nothing");
     }
@@ -123,4 +122,24 @@ pub fn descriptor(s: &[u8]) -> Line {
             .number(d.length_code as u64),
         k,
     )
+}
+
+// The answer to a question on numbers and descriptors, and nothing where it is on something else.
+pub fn answer(asked: &[u8], s: &[u8], at: usize, end: usize, length: usize) -> Line {
+    if check::same(asked, b"varuint") {
+        return var_uint(s, at, end);
+    }
+    if check::same(asked, b"varint") {
+        return var_int(s, at, end);
+    }
+    if check::same(asked, b"int") {
+        return int(s, at, end, length);
+    }
+    if check::same(asked, b"intparts") {
+        return int_parts(s, at, end, length);
+    }
+    if check::same(asked, b"descriptor") {
+        return descriptor(s);
+    }
+    Line::new()
 }

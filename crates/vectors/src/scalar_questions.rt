@@ -1,6 +1,6 @@
 // The answers to questions on values: reading a scalar, and stepping into a container.
 use crate::number_questions::refused;
-use crate::text::Line;
+use questions::text::Line;
 use stepping::cursor::Cursor;
 use stepping::cursor::Rules;
 use values::value;
@@ -24,25 +24,6 @@ pub fn type_name(line: Line, type_code: u8) -> Line {
         12 => line.word(b"sexp"),
         13 => line.word(b"struct"),
         _ => line.word(b"no type"),
-    }
-}
-
-fn digits(line: Line, bytes: &[u8]) -> Line {
-    let mut out = line;
-    let mut i = 0;
-    while i < bytes.len() {
-        out = out.hex_byte(bytes[i]);
-        i += 1;
-    }
-    out
-}
-
-// Bytes in hexadecimal, `-` where there are none.
-pub fn hex_bytes(line: Line, bytes: &[u8]) -> Line {
-    if bytes.len() == 0 {
-        line.byte(b'-')
-    } else {
-        digits(line, bytes)
     }
 }
 
@@ -95,7 +76,7 @@ fn scalar(s: &[u8], at: usize, end: usize, position: usize) -> Line {
             negative,
             start: _,
             end: _,
-        } => hex_bytes(sign(negative), value::read_part(s, at, end, position)),
+        } => sign(negative).hex_bytes(value::read_part(s, at, end, position)),
         Scalar::Float { bits } => float(bits),
         Scalar::Decimal { start, end: past } => span(b"decimal", start, past),
         Scalar::Timestamp { start, end: past } => span(b"timestamp", start, past),
@@ -110,7 +91,7 @@ fn scalar(s: &[u8], at: usize, end: usize, position: usize) -> Line {
 
 // `part BYTES AT END POSITION`: the bytes of that reading's part, `-` where there are none.
 fn part(s: &[u8], at: usize, end: usize, position: usize) -> Line {
-    hex_bytes(Line::new(), value::read_part(s, at, end, position))
+    Line::new().hex_bytes(value::read_part(s, at, end, position))
 }
 
 fn body(rules: Rules, cursor: Cursor) -> Line {

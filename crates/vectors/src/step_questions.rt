@@ -1,21 +1,11 @@
 // The answers to questions on steps: through a stream, a list's or sexp's body, a struct's body.
-use crate::frame_questions::joined;
-use crate::text::Line;
+use crate::frame_questions::places;
 use framing::encoded_value::EncodedValue;
+use questions::text::Line;
 use stepping::cursor::Cursor;
 use stepping::cursor::Item;
 use stepping::cursor::Rules;
 use stepping::cursor::Step;
-
-fn value(line: Line, value: EncodedValue) -> Line {
-    line.word(b"value")
-        .number(value.byte as u64)
-        .position(value.start)
-        .position(value.annotations)
-        .position(value.descriptor)
-        .position(value.body)
-        .position(value.end)
-}
 
 // A field begins where its ID does.
 fn field(line: Line, id: usize, start: usize, value: EncodedValue) -> Line {
@@ -42,7 +32,7 @@ fn item(line: Line, item: Item) -> Line {
             .number(major as u64)
             .number(minor as u64)
             .position(end),
-        Item::Value(found) => value(line, found),
+        Item::Value(found) => places(line, found),
         Item::Field {
             id,
             start,
@@ -71,7 +61,7 @@ fn steps(rules: Rules, s: &[u8], at: usize, end: usize, count: usize) -> Line {
     while i < count {
         let step = next(rules, s, cursor);
         let found = step.item;
-        line = item(joined(line), found);
+        line = item(line.joined(), found);
         cursor = step.next;
         i += 1;
     }

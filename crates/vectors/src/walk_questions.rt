@@ -1,11 +1,10 @@
 // The answers to questions on the walk of a part that is taken as a stream.
-use crate::frame_questions::joined;
 use crate::scalar_questions::type_name;
-use crate::text::Line;
 use framing::encoded_value::EncodedValue;
-use maps::walk::Walk;
+use questions::text::Line;
 use stepping::cursor::Item;
 use stepping::cursor::is_last;
+use walking::walk::Walk;
 
 // Both signs of an int have one name, by the code 2.
 fn name_code(type_code: u8) -> u8 {
@@ -64,7 +63,7 @@ pub fn walk(s: &[u8], at: usize, end: usize) -> Line {
     while i < most {
         let walked = state.next(s);
         let item = walked.item;
-        line = visited(joined(line), walked.depth, item);
+        line = visited(line.joined(), walked.depth, item);
         if is_last(item) {
             return line;
         }

@@ -5,11 +5,6 @@ use Prim.Native.Nat.{_-_}
 use lib.ListN.{length}
 use Rattle.vectors.proofs.compare_all.Statement.{statement}
 use Rattle.vectors.proofs.compare_all.Tie as tie
-use Rattle.vectors.proofs.compare_all.Reads as reads
-use Rattle.vectors.proofs.compare_all.Lts as lts
-use Rattle.vectors.proofs.compare.Reads as compare-reads
-use Rattle.vectors.proofs.text.find.Reads as find-reads
-use Rattle.vectors.proofs.text.part.Reads as part-reads
 
 abbrev Inv-loop : tie.InvT-loop
 Inv-loop file tally₀ at₀ tally at = Unit {0}
@@ -25,6 +20,9 @@ find-requires c κs = search needs
 
 part-requires : tie.Need-part-requires Inv-loop μ-loop
 part-requires c κs = search needs
+
+answer-requires : tie.Need-answer-requires Inv-loop μ-loop
+answer-requires c κs = search needs
 
 compare-requires : tie.Need-compare-requires Inv-loop μ-loop
 compare-requires c κs = search needs
@@ -53,6 +51,7 @@ compare-all-spec =
     loop-holds
     find-requires
     part-requires
+    answer-requires
     compare-requires
     returns
     add-at

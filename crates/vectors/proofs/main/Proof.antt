@@ -4,12 +4,6 @@ use borrow.Author.Needs.{needs}
 use Prim.Native.Nat.{_-_}
 use Rattle.vectors.proofs.main.Statement.{statement}
 use Rattle.vectors.proofs.main.Tie as tie
-use Rattle.vectors.proofs.main.Reads as reads
-use Rattle.vectors.proofs.main.Lts as lts
-use Rattle.io.proofs.buffer.Reads as buffer-reads
-use Rattle.os.proofs.arg.Reads as arg-reads
-use Rattle.os.proofs.arg_count.Reads as arg-count-reads
-use Rattle.vectors.proofs.report.Reads as report-reads
 
 abbrev Inv-loop : tie.InvT-loop
 Inv-loop i₀ i = Unit {0}

@@ -4,13 +4,6 @@ use borrow.Author.Needs.{needs}
 use Prim.Native.Nat.{_-_}
 use Rattle.vectors.proofs.frame_questions.annotations.Statement.{statement}
 use Rattle.vectors.proofs.frame_questions.annotations.Tie as tie
-use Rattle.vectors.proofs.frame_questions.annotations.Reads as reads
-use Rattle.vectors.proofs.frame_questions.annotations.Lts as lts
-use Rattle.framing.proofs.annotations_iterator.read_annotation.Reads as read-annotation-reads
-use Rattle.vectors.proofs.frame_questions.annotation.Reads as annotation-reads
-use Rattle.vectors.proofs.frame_questions.cursor.Reads as cursor-reads
-use Rattle.vectors.proofs.frame_questions.joined.Reads as joined-reads
-use Rattle.vectors.proofs.text.Line.new.Reads as new-reads
 
 abbrev Inv-loop : tie.InvT-loop
 Inv-loop s at end count line₀ from₀ i₀ line from i = Unit {0}

@@ -5,10 +5,6 @@ use Prim.Native.Nat.{_-_}
 use lib.ListN.{length}
 use Rattle.vectors.proofs.number_questions.magnitude.Statement.{statement}
 use Rattle.vectors.proofs.number_questions.magnitude.Tie as tie
-use Rattle.vectors.proofs.number_questions.magnitude.Reads as reads
-use Rattle.vectors.proofs.number_questions.magnitude.Lts as lts
-use Rattle.vectors.proofs.text.Line.byte.Reads as byte-reads
-use Rattle.vectors.proofs.text.Line.hex_byte.Reads as hex-byte-reads
 
 abbrev Inv-loop : tie.InvT-loop
 Inv-loop first rest out₀ any₀ i₀ out any i = Unit {0}

@@ -4,11 +4,6 @@ use borrow.Author.Needs.{needs}
 use Prim.Native.Nat.{_-_}
 use Rattle.vectors.proofs.step_questions.left.Statement.{statement}
 use Rattle.vectors.proofs.step_questions.left.Tie as tie
-use Rattle.vectors.proofs.step_questions.left.Reads as reads
-use Rattle.vectors.proofs.step_questions.left.Lts as lts
-use Rattle.vectors.proofs.step_questions.next.Reads as next-reads
-use Rattle.vectors.proofs.text.Line.new.Reads as new-reads
-use Rattle.vectors.proofs.text.Line.position.Reads as position-reads
 
 abbrev Inv-loop : tie.InvT-loop
 Inv-loop rules s at end count cursor₀ i₀ cursor i = Unit {0}

@@ -4,12 +4,6 @@ use borrow.Author.Needs.{needs}
 use Prim.Native.Nat.{_-_}
 use Rattle.vectors.proofs.step_questions.steps.Statement.{statement}
 use Rattle.vectors.proofs.step_questions.steps.Tie as tie
-use Rattle.vectors.proofs.step_questions.steps.Reads as reads
-use Rattle.vectors.proofs.step_questions.steps.Lts as lts
-use Rattle.vectors.proofs.frame_questions.joined.Reads as joined-reads
-use Rattle.vectors.proofs.step_questions.item.Reads as item-reads
-use Rattle.vectors.proofs.step_questions.next.Reads as next-reads
-use Rattle.vectors.proofs.text.Line.new.Reads as new-reads
 
 abbrev Inv-loop : tie.InvT-loop
 Inv-loop rules s at end count line₀ cursor₀ i₀ line cursor i = Unit {0}

@@ -1,0 +1,400 @@
+#!/usr/bin/env python3
+"""The answers in data/: what each exported function returns, and what it leaves in its buffer.
+
+    ./derive_records.py                                                           writes the answers behind the questions of data/, and stdout
+    ./derive_records.py check                                                     compares the files with what would be written
+    ./derive_records.py questions | oracle/answer | ./derive_records.py compare   asks ion-rust what it has an entry for
+
+What a value, a pad or a wrapper is and where it is refused comes from ../mapspans_cases/derive.py, which follows the scope paper. The records follow the
+paper's "Record", "Scalars" and "VarUInt, VarInt, Int", the kinds 5 to 8 the tables of include/ion_map.h. Nothing is shared with the reader that is compared.
+"""
+
+import struct
+import sys
+from pathlib import Path
+
+FOLDER = Path(__file__).resolve().parent
+sys.dont_write_bytecode = True
+sys.path.insert(0, str(FOLDER.parent / "mapspans_cases"))
+
+import derive as steps  # noqa: E402
+from derive import Refused, refuse_if, var_uint  # noqa: E402
+
+FILL = 0xAA
+RECORD_SIZE = 64
+STEPS = [steps.step_stream, steps.step_sequence, steps.step_struct]
+FIELDS = 2
+END, MARKER, VALUE, FIELD, _, ANNOTATION, BODY, SCALAR, NUMBER, REFUSED = range(10)
+NULL, BOOL, INT, FLOAT, DECIMAL, TIMESTAMP, SYMBOL, STRING, CLOB, BLOB, CONTAINER = range(11)
+
+# Refusals that each function can answer with; data/ is to have each of them.
+FRAMING = {1, 3, 5, 8, 20, *range(22, 33)}
+STEPPING = FRAMING | {2, 6, 7, 21, 50, 51}
+REFUSALS = {
+    "step": STEPPING,
+    "steps": STEPPING,
+    "annotation": {3, 20, 50, 51},
+    "step_in": FRAMING | {50, 51, 52},
+    "scalar": FRAMING | {33, 34, 35, 36, 50, 51},
+    "number": {3, 4, 9, 20, 50, 51},
+    "walked": set(),
+}
+
+# ===== The records' words =====
+
+
+def record(*words):
+    return [*words] + [0] * (8 - len(words))
+
+
+def inside(data, start, end, position):
+    refuse_if(not start <= position <= end <= len(data), 50, 0)
+
+
+def annotations_start(data, at, descriptor):
+    """Where the annotations of the value at `at` start: behind the wrapper's two lengths, or at the descriptor."""
+    if at == descriptor:
+        return at
+    _, field = steps.coded_length(data, at + 1, descriptor, data[at] % 16)
+    return var_uint(data, field, descriptor)[1]
+
+
+def item_record(data, item, kind):
+    if item.byte == steps.MARKER:
+        return record(MARKER, item.byte, item.start, data[item.start + 1], data[item.start + 2], item.end, item.end)
+    field, at = var_uint(data, item.start, item.end) if kind == FIELDS else (0, item.start)
+    annotations = annotations_start(data, at, item.descriptor)
+    return record(FIELD if kind == FIELDS else VALUE, item.byte, item.start, annotations, item.descriptor, item.body, item.end, field)
+
+
+def step(data, start, end, position, kind):
+    refuse_if(kind > FIELDS, 50, 0)
+    inside(data, start, end, position)
+    item = STEPS[kind](data, position, end)
+    return item_record(data, item, kind) if item else record(END, 0, end)
+
+
+def annotation(data, start, end, position):
+    inside(data, start, end, position)
+    if position == end:
+        return record(END, 0, end)
+    number, after = var_uint(data, position, end)
+    return record(ANNOTATION, 0, position, number, 0, 0, after)
+
+
+def value_at(data, start, end, position):
+    inside(data, start, end, position)
+    refuse_if(position == end, 1, position)
+    return steps.value(data, position, end)
+
+
+def step_in(data, start, end, position):
+    item = value_at(data, start, end, position)
+    refuse_if(not steps.is_open(item.byte), 52, item.descriptor)
+    part = 2 if item.byte // 16 == steps.STRUCT else 1
+    return record(BODY, part, item.descriptor, 0, 0, item.body, item.end)
+
+
+def float_bits(body):
+    """IEEE 754 numbers of 0, 4 or 8 bytes as 64 bits; a NaN of 4 bytes keeps sign and fraction and gains the quiet bit."""
+    if len(body) == 8:
+        return int.from_bytes(body, "big")
+    bits = int.from_bytes(body, "big")
+    sign, exponent, fraction = bits >> 31, bits >> 23 & 255, bits & 0x7FFFFF
+    if exponent == 255 and fraction:
+        return sign << 63 | 0x7FF << 52 | 1 << 51 | fraction << 29
+    number = struct.unpack(">f", body)[0] if body else 0.0
+    return int.from_bytes(struct.pack(">d", number), "big")
+
+
+def reading(data, item):
+    """What a value is, its number, and its part."""
+    code, (body, end, at) = item.byte % 16, (item.body, item.end, item.descriptor)
+    name = steps.NAMES[item.byte // 16]
+    whole = data[body:end]
+    if code == 15:
+        return NULL, 0, 0, 0
+    if name == "bool":
+        refuse_if(code > 1, 33, at)
+        return BOOL, code, 0, 0
+    if name == "int":
+        negative = item.byte // 16 == 3
+        magnitude = whole.lstrip(b"\0")
+        refuse_if(negative and not magnitude, 34, at)
+        return INT, int(negative), end - len(magnitude), end
+    if name == "float":
+        return FLOAT, float_bits(whole), 0, 0
+    if name == "symbol":
+        refuse_if(len(whole) > 8, 35, at)
+        return SYMBOL, int.from_bytes(whole, "big"), 0, 0
+    if name == "string":
+        try:
+            whole.decode("utf-8")
+        except UnicodeDecodeError:
+            raise Refused(36, at) from None
+    parts = {"decimal": DECIMAL, "timestamp": TIMESTAMP, "string": STRING, "clob": CLOB, "blob": BLOB}
+    return (parts[name], 0, body, end) if name in parts else (CONTAINER, 0, 0, 0)
+
+
+def scalar(data, start, end, position):
+    item = value_at(data, start, end, position)
+    what, number, first, past = reading(data, item)
+    return record(SCALAR, item.byte, item.descriptor, what, number, first, past)
+
+
+def var_int(data, at, end):
+    """Sign, magnitude and end. The first byte has the sign at 40 and six bits."""
+    try:
+        number, after = var_uint(data, at, end)
+    except Refused as refused:
+        raise Refused(4 if refused.number == 3 else refused.number, refused.position) from None
+    top = 1 << 7 * (after - at) - 1
+    return int(number >= top), number % top, after
+
+
+def number(data, start, end, position, form, length):
+    refuse_if(form > 2, 50, 0)
+    inside(data, start, end, position)
+    if form == 0:
+        value, after = var_uint(data, position, end)
+        return record(NUMBER, 0, position, value, 0, after, after)
+    if form == 1:
+        negative, magnitude, after = var_int(data, position, end)
+        return record(NUMBER, negative, position, magnitude, 0, after, after)
+    refuse_if(length > end - position, 9, position)
+    first = data[position] if length else 0
+    return record(NUMBER, first // 128, position, first % 128, 0, position + min(length, 1), position + length)
+
+
+def walked(data, most):
+    return min(most, len(steps.walk(data, 0, len(data))) - 1)
+
+
+# ===== What a call returns and leaves =====
+
+SINGLE = {"step": step, "annotation": annotation, "step_in": step_in, "scalar": scalar, "number": number}
+
+
+def called(function, data, *arguments):
+    """The record that a function fills."""
+    try:
+        return function(data, *arguments)
+    except Refused as refused:
+        return record(REFUSED, refused.number, refused.position)
+
+
+def run(data, start, end, position, kind, most):
+    """The records of many steps, up to an end or a refusal."""
+    records = []
+    while len(records) < most:
+        records.append(called(step, data, start, end, position, kind))
+        if records[-1][0] in (END, REFUSED):
+            break
+        position = records[-1][6]
+    return records
+
+
+def records_of(name, data, *arguments):
+    *rest, size = arguments
+    if size < RECORD_SIZE:
+        return []
+    return run(data, *rest, size // RECORD_SIZE) if name == "steps" else [called(SINGLE[name], data, *rest)]
+
+
+def returned(records):
+    if not records:
+        return 51
+    return records[-1][1] if records[-1][0] == REFUSED else 0
+
+
+def shown(records, size):
+    """A buffer's words, a `;` before each record's, `-` for eight bytes that are as they were; fewer than eight bytes in hexadecimal."""
+    left = b"".join(struct.pack("<8Q", *words) for words in records)
+    left += bytes([FILL]) * (size - len(left))
+    for at in range(0, size, 8):
+        word = left[at : at + 8]
+        if at % RECORD_SIZE == 0:
+            yield ";"
+        if len(word) < 8:
+            yield word.hex().upper()
+        else:
+            yield "-" if word == bytes([FILL] * 8) else str(int.from_bytes(word, "little"))
+
+
+def parsed(question):
+    name, data, *numbers = question.split(" ")
+    return name, b"" if data == "-" else bytes.fromhex(data), [int(n) for n in numbers]
+
+
+def answer(question):
+    name, data, numbers = parsed(question)
+    if name == "walked":
+        return str(walked(data, *numbers))
+    records = records_of(name, data, *numbers)
+    count = [str(len(records))] if name == "steps" else []
+    return " ".join([str(returned(records)), *count, *shown(records, numbers[-1])])
+
+
+# ===== ion-rust's answers to the same =====
+
+
+def told(name, data, words):
+    """A record as the oracle writes it: ion-rust has no position for 20 and up."""
+    kind, *rest = words
+    if kind == REFUSED:
+        return f"refused {rest[0]} {rest[1] if rest[0] < 20 else '?'}"
+    if kind == END:
+        return "end" if name == "annotation" else f"end {rest[1]}"
+    if kind == MARKER:
+        return f"marker {words[2]} {words[3]} {words[4]} {words[6]}"
+    if kind in (VALUE, FIELD):
+        places = " ".join(str(word) for word in words[1:7])
+        return f"value {places}" if kind == VALUE else f"field {words[7]} {places}"
+    if kind == ANNOTATION:
+        return f"{words[3]} {words[6]}"
+    if kind == BODY:
+        return f"{['sequence', 'struct'][words[1] - 1]} {words[5]} {words[6]}"
+    return told_scalar(data, words)
+
+
+def hexadecimal(body):
+    return body.hex().upper() or "-"
+
+
+def sign(negative):
+    return "negative" if negative else "positive"
+
+
+def told_scalar(data, words):
+    _, byte, _, what, number, start, end, _ = words
+    if what == NULL:
+        return f"null {steps.NAMES[byte // 16]}"
+    if what == INT:
+        return f"int {sign(number)} {hexadecimal(data[start:end])}"
+    if what == FLOAT:
+        return f"float {number:016X}"
+    if what == CONTAINER:
+        return "container"
+    name = steps.NAMES[byte // 16]
+    return f"{name} {number}" if what in (BOOL, SYMBOL) else f"{name} {start} {end}"
+
+
+def told_number(data, form, words):
+    kind, negative, _, value, _, rest, end, _ = words
+    if kind == REFUSED:
+        return told("number", data, words)
+    if form == 0:
+        return f"{value} {end}"
+    if form == 1:
+        return f"{sign(negative)} {value} {end}"
+    return f"{sign(negative)} {hexadecimal((bytes([value]) + data[rest:end]).lstrip(bytes(1)))} {end}"
+
+
+def asked(question):
+    """The oracle's question and what it is to answer; nothing where 50 or 51 is answered, which ion-rust hasn't got."""
+    name, data, numbers = parsed(question)
+    text = question.split(" ")[1]
+    if name == "walked":
+        return f"walk {text} 0 {len(data)}", steps.told(steps.walk(data, 0, len(data)))
+    records = records_of(name, data, *numbers)
+    if returned(records) in (50, 51):
+        return None
+    start, end, position, *more = numbers
+    if name in ("step", "steps"):
+        rules = ["stream", "sequence", "struct"][more[0]]
+        return f"{rules} {text} {position} {end} {len(records)}", " ; ".join(told(name, data, words) for words in records)
+    if name == "annotation":
+        return f"annotations {text} {position} {end} 1", told(name, data, records[0])
+    if name == "number":
+        form = ["varuint", "varint", "int"][more[0]]
+        length = f" {more[1]}" if form == "int" else ""
+        return f"{form} {text} {position} {end}{length}", told_number(data, more[0], records[0])
+    return f"{name.replace('_', '')} {text} {start} {end} {position}", told(name, data, records[0])
+
+
+def is_nan(answer):
+    """Of a NaN only that it is one can be compared."""
+    return answer.startswith("float ") and int(answer[6:], 16) % 2**63 > 0x7FF << 52
+
+
+def same(ours, theirs):
+    """Equal but for the mark of an answer that is the oracle's own."""
+    return ours.removesuffix(" !") == theirs.removesuffix(" !") or is_nan(ours) and is_nan(theirs)
+
+
+# ===== Files =====
+
+
+def names():
+    return [name.removesuffix(".txt") for name in (FOLDER / "args").read_text().split()]
+
+
+def stored(name):
+    """The lines of a file, each with its question where it has one."""
+    for line in (FOLDER / "data" / f"{name}.txt").read_text().splitlines():
+        yield line, "" if line.startswith("#") or not line else line.partition(" = ")[0]
+
+
+def files():
+    counts = ""
+    for name in names():
+        lines = [f"{question} = {answer(question)}" if question else line for line, question in stored(name)]
+        questions = [question for _, question in stored(name) if question]
+        numbers = {int(answer(question).split(" ")[0]) for question in questions} if REFUSALS[name] else set()
+        assert numbers - {0} == REFUSALS[name], (name, numbers ^ REFUSALS[name])
+        assert len(set(questions)) == len(questions), name
+        yield f"data/{name}.txt", "".join(line + "\n" for line in lines)
+        counts += f"{name}.txt: {len(questions)} agree, 0 differ\n"
+    yield "stdout", counts
+
+
+def write():
+    for name, content in files():
+        (FOLDER / name).write_text(content)
+
+
+def check():
+    wrong = [name for name, content in files() if (FOLDER / name).read_text() != content]
+    for name in wrong:
+        print(f"{name} differs")
+    return not wrong
+
+
+def pairs():
+    """Each question for the oracle, and the answer expected."""
+    return [pair for name in names() for _, question in stored(name) if question and (pair := asked(question))]
+
+
+def compare():
+    """Reads the oracle's answers to the questions."""
+    answers = [line.rstrip("\n").partition(" = ") for line in sys.stdin]
+    agreed = differed = 0
+    for (question, ours), (theirs_asked, _, theirs) in zip(pairs(), answers, strict=True):
+        assert question == theirs_asked, (question, theirs_asked)
+        if theirs == "unsupported":
+            continue
+        if same(ours, theirs):
+            agreed += 1
+        else:
+            differed += 1
+            print(f"{question[:200]}\n  here   {ours[-200:]}\n  oracle {theirs[-200:]}")
+    print(f"{agreed} answers agree, {differed} differ, {len(answers) - agreed - differed} can't be compared")
+    return differed == 0
+
+
+def questions():
+    for question, _ in pairs():
+        print(question)
+
+
+def main():
+    commands = {"write": write, "check": check, "questions": questions, "compare": compare}
+    command = commands.get(sys.argv[1] if len(sys.argv) > 1 else "write")
+    if command is None:
+        sys.exit(__doc__)
+    if command() is False:
+        sys.exit(1)
+
+
+if __name__ == "__main__":
+    main()
