@@ -15,7 +15,7 @@ use Rattle.numbers.specs.Outcome.{outsideOf}
 use Rattle.numbers.proofs.Outcomes.{inside, pick-same, inside-end}
 use Rattle.numbers.proofs.Parts.{part-cons, part-none, part-length, part-same}
 use Rattle.numbers.proofs.Digits.{Below, none, digit, digits-below}
-use Rattle.numbers.proofs.Frames.{outside-same}
+use Rattle.numbers.proofs.Locality.{outside-local}
 use Rattle.bodies.specs.Uint.{uintIn}
 
 -- v, with the bytes after it
@@ -64,9 +64,9 @@ unfolding uintOf
 uint-below s b at end h k = rw (← part-length s at end k) (digits-below (bytes-below s b (end - at) at end (omega arith) k))
 
 -- two slices of one length with the same bytes there have the same number
-pub uint-same : (s t : List ℕ) (at end : ℕ) → length s ≡ length t → Same s t at end → uintIn s at end ≡ uintIn t at end
+pub uint-local : (s t : List ℕ) (at end : ℕ) → length s ≡ length t → Same s t at end → uintIn s at end ≡ uintIn t at end
 unfolding uintIn
-uint-same s t at end e same =
-    rw (← outside-same s t at end e)
+uint-local s t at end e same =
+    rw (← outside-local s t at end e)
     (pick-same (outsideOf s at end) (λ _. refl) (λ o.
     pick-same (ltb 8 (end - at)) (λ _. refl) (λ _. ap uintOf (part-same s t at end e (inside-end s at end o) same))))

@@ -15,7 +15,7 @@ use Rattle.numbers.specs.Bytes.{part, Same}
 use Rattle.numbers.specs.Outcome.{outsideOf}
 use Rattle.numbers.proofs.Outcomes.{by-test, inside, pick-same, inside-order}
 use Rattle.numbers.proofs.Parts.{part-cons, part-none}
-use Rattle.numbers.proofs.Frames.{outside-same}
+use Rattle.numbers.proofs.Locality.{outside-local}
 use Rattle.bodies.specs.Magnitude.{nonzeroAmong, significantFrom}
 
 module _ (s : List ℕ) where
@@ -100,16 +100,16 @@ module _ (s : List ℕ) (at end : ℕ) (h : at ≤ end) (k : end ≤ length s) w
           (ap uintOf (sym (part-cons s r end l k)) ∙ significant-begins .worth ∙ z)
 
 -- two slices of one length with the same bytes there have it at the same place
-among-same : (s t : List ℕ) (n at end : ℕ) → at + n ≡ end → Same s t at end → nonzeroAmong s at n ≡ nonzeroAmong t at n
+among-local : (s t : List ℕ) (n at end : ℕ) → at + n ≡ end → Same s t at end → nonzeroAmong s at n ≡ nonzeroAmong t at n
 unfolding nonzeroAmong
-among-same s t zero at end e same = refl
-among-same s t (suc n) at end e same =
+among-local s t zero at end e same = refl
+among-local s t (suc n) at end e same =
     rw (← same at (omega arith) (omega arith))
-    (pick-same (eqb (getD s at 0) 0) (λ _. among-same s t n (suc at) end (omega arith) (λ i a b. same i (omega arith) b)) (λ _. refl))
+    (pick-same (eqb (getD s at 0) 0) (λ _. among-local s t n (suc at) end (omega arith) (λ i a b. same i (omega arith) b)) (λ _. refl))
 
-pub significant-same : (s t : List ℕ) (at end : ℕ) → length s ≡ length t → Same s t at end → significantFrom s at end ≡ significantFrom t at end
+pub significant-local : (s t : List ℕ) (at end : ℕ) → length s ≡ length t → Same s t at end → significantFrom s at end ≡ significantFrom t at end
 unfolding significantFrom
-significant-same s t at end e same =
-    rw (← outside-same s t at end e)
+significant-local s t at end e same =
+    rw (← outside-local s t at end e)
     (pick-same (outsideOf s at end) (λ _. refl) (λ o.
-    let h : at ≤ end = inside-order s at end o in among-same s t (end - at) at end (omega arith) same))
+    let h : at ≤ end = inside-order s at end o in among-local s t (end - at) at end (omega arith) same))

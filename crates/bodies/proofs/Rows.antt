@@ -15,7 +15,7 @@ use Rattle.numbers.specs.Outcome.{pick, outsideOf}
 use Rattle.numbers.specs.Bytes.{part, Same}
 use Rattle.numbers.proofs.Outcomes.{by-test, pick-same, inside, inside-end}
 use Rattle.numbers.proofs.Parts.{part-cons, part-none, part-same}
-use Rattle.numbers.proofs.Frames.{outside-same}
+use Rattle.numbers.proofs.Locality.{outside-local}
 use Rattle.bodies.specs.Utf8.{Range, range, inRange, tail, table, rowOf, ifSome, goesOn, wellFormed, utf8}
 use Rattle.bodies.specs.Private.Sequence.{tailsOf, lowOf, highOf, wanted}
 
@@ -172,8 +172,8 @@ unfolding utf8
 utf8-inside s at end h k = rw (inside s at end h k)
 
 -- two slices of one length with the same bytes there have the same answer
-pub utf8-same : (s t : List ℕ) (at end : ℕ) → length s ≡ length t → Same s t at end → utf8 s at end ≡ utf8 t at end
+pub utf8-local : (s t : List ℕ) (at end : ℕ) → length s ≡ length t → Same s t at end → utf8 s at end ≡ utf8 t at end
 unfolding utf8
-utf8-same s t at end e same =
-    rw (← outside-same s t at end e)
+utf8-local s t at end e same =
+    rw (← outside-local s t at end e)
     (pick-same (outsideOf s at end) (λ _. refl) (λ o. ap wellFormed (part-same s t at end e (inside-end s at end o) same)))

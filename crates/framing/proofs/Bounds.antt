@@ -14,18 +14,18 @@ use Rattle.numbers.specs.Descriptor.{descriptorOf}
 use Rattle.numbers.specs.declared.type_descriptor.TypeDescriptor.{TypeDescriptor}
 use Rattle.numbers.proofs.Outcomes.{Each, given, each-refuse, each-pick, each-within, each-then, each-of}
 use Rattle.numbers.proofs.Meaning.{Bounded, var-uint-bounded}
-use Rattle.framing.specs.Answers.{begun, Sized, sizedBy, lengthAt, lengthTests, valueLength, fitting, plainValue, padded, padAt, Wrapping, wrapperTests, annotationsAt, wrapperAt, innerValue, wrapped, unwrapped, annotatedValue, valueAt, badFloat, shortTimestamp, emptyOrdered, noValue, isPad, isWrapper, mostAnnotations, readValue, Frame, padding, valued, frameAt, readFrame}
+use Rattle.framing.specs.Answers.{peekedDescriptor, Sized, sizedBy, lengthAt, lengthTests, valueLength, fitting, valueWithoutAnnotations, padded, padAt, Wrapping, wrapperTests, annotationsAt, wrapperAt, innerValue, wrapped, unwrapped, annotatedValue, valueAt, badFloat, shortTimestamp, emptyOrdered, noValue, isPad, isWrapper, mostAnnotations, readValue, Frame, padding, valued, frameAt, readFrame}
 use Rattle.framing.specs.Spans.{Spans, Padding}
 
 -- a descriptor is one of the part
-pub record BegunAt (s : List ℕ) (at end : ℕ) (d : TypeDescriptor) : Type 0 where
+pub record PeekedAt (s : List ℕ) (at end : ℕ) (d : TypeDescriptor) : Type 0 where
   pub before : at < end
   pub inside : end ≤ length s
   pub is : d ≡ descriptorOf (getD s at 0)
 
-pub begun-each : (s : List ℕ) (at end : ℕ) → Each (BegunAt s at end) (begun s at end)
-unfolding begun
-begun-each s at end =
+pub peeked-each : (s : List ℕ) (at end : ℕ) → Each (PeekedAt s at end) (peekedDescriptor s at end)
+unfolding peekedDescriptor
+peeked-each s at end =
     each-within s at end (λ a b.
     each-refuse (eqb at end) 1 end (λ e. given (record { before = omega (arith, eqb-false at end e); inside = b; is = refl })))
 
@@ -64,8 +64,8 @@ pub record Ordered (at end : ℕ) (v : Spans) : Type 0 where
   pub within : v .end ≤ end
   pub near : v .body ≤ v .descriptor + 1 + mostBytes
 
-pub plain-each : (s : List ℕ) (at end : ℕ) (d : TypeDescriptor) → at < end → Each (Ordered at end) (plainValue s at end d)
-unfolding plainValue fitting
+pub plain-each : (s : List ℕ) (at end : ℕ) (d : TypeDescriptor) → at < end → Each (Ordered at end) (valueWithoutAnnotations s at end d)
+unfolding valueWithoutAnnotations fitting
 plain-each s at end d h =
     each-refuse (noValue (d .kind)) 22 at (λ _.
     each-then (value-length-each s at end d h) (λ l b.
@@ -131,14 +131,14 @@ unfolding innerValue
 inner-each s at end d h =
     each-refuse (isWrapper (d .kind)) 27 at (λ _. each-refuse (isPad (d .kind)) 28 at (λ _. plain-each s at end d h))
 
-pub inner-begun-each : (s : List ℕ) (at end : ℕ) → Each (Ordered at end) (andThen (begun s at end) (innerValue s at end))
-inner-begun-each s at end = each-then (begun-each s at end) (λ d b. inner-each s at end d (b .before))
+pub inner-peeked-each : (s : List ℕ) (at end : ℕ) → Each (Ordered at end) (andThen (peekedDescriptor s at end) (innerValue s at end))
+inner-peeked-each s at end = each-then (peeked-each s at end) (λ d b. inner-each s at end d (b .before))
 
 pub annotated-each : (s : List ℕ) (at end : ℕ) (d : TypeDescriptor) → at < end → Each (Ordered at end) (annotatedValue s at end d)
 unfolding annotatedValue unwrapped wrapped
 annotated-each s at end d h =
     each-then (wrapper-each s at end d h) (λ w b.
-    each-then (inner-begun-each s (w .value) end) (λ v o.
+    each-then (inner-peeked-each s (w .value) end) (λ v o.
     each-refuse (not (eqb (v .end - v .descriptor) (w .expected))) 29 at (λ _.
     given
     (record {
@@ -158,7 +158,7 @@ value-each s at end d h =
 
 pub read-value-each : (s : List ℕ) (at end : ℕ) → Each (Ordered at end) (readValue s at end)
 unfolding readValue
-read-value-each s at end = each-then (begun-each s at end) (λ d b. value-each s at end d (b .before))
+read-value-each s at end = each-then (peeked-each s at end) (λ d b. value-each s at end d (b .before))
 
 -- a pad or a value that a step meets
 pub data FrameIn (at end : ℕ) : Frame → Type 0 where
@@ -168,6 +168,6 @@ pub data FrameIn (at end : ℕ) : Frame → Type 0 where
 pub frame-each : (s : List ℕ) (at end : ℕ) → Each (FrameIn at end) (readFrame s at end)
 unfolding readFrame frameAt
 frame-each s at end =
-    each-then (begun-each s at end) (λ d b.
+    each-then (peeked-each s at end) (λ d b.
     each-pick (isPad (d .kind)) (λ _. each-then (pad-each s at end d (b .before)) (λ p q. given (pad-in q)))
     (λ _. each-then (value-each s at end d (b .before)) (λ v o. given (value-in o))))

@@ -1,9 +1,9 @@
 pub mod Bounds
 pub mod Nibbles
-pub mod Told
-pub mod Accepts
-pub mod Looked
+pub mod Soundness
+pub mod Completeness
+pub mod Locality
 pub mod Refusing
-pub mod Opening
-pub mod Telling
+pub mod Location
+pub mod InlineLengths
 pub mod ShortValues

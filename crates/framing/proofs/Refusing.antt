@@ -12,13 +12,13 @@ use Rattle.numbers.specs.Answers.{varUInt}
 use Rattle.numbers.specs.declared.type_descriptor.TypeDescriptor.{TypeDescriptor}
 use Rattle.numbers.proofs.Outcomes.{Proper, gave, proper-refuse, proper-pick, proper-within, proper-then}
 use Rattle.numbers.proofs.Meaning.{var-uint-bounded, var-uint-proper}
-use Rattle.framing.specs.Answers.{begun, lengthAt, lengthTests, valueLength, fitting, plainValue, padded, padAt, wrapperTests, annotationsAt, wrapperAt, innerValue, wrapped, unwrapped, annotatedValue, valueAt, badFloat, shortTimestamp, emptyOrdered, noValue, isPad, isWrapper, mostAnnotations, frameAt, readFrame}
-use Rattle.framing.proofs.Bounds.{begun-each, length-each, value-length-each, pad-each, wrapper-each, inner-begun-each, value-each}
+use Rattle.framing.specs.Answers.{peekedDescriptor, lengthAt, lengthTests, valueLength, fitting, valueWithoutAnnotations, padded, padAt, wrapperTests, annotationsAt, wrapperAt, innerValue, wrapped, unwrapped, annotatedValue, valueAt, badFloat, shortTimestamp, emptyOrdered, noValue, isPad, isWrapper, mostAnnotations, frameAt, readFrame}
+use Rattle.framing.proofs.Bounds.{peeked-each, length-each, value-length-each, pad-each, wrapper-each, inner-peeked-each, value-each}
 
 module _ (s : List ℕ) (end : ℕ) (k : end ≤ length s) where
-  begun-proper : (at : ℕ) → at ≤ end → Proper (begun s at end)
-  unfolding begun
-  begun-proper at h = proper-within s at end h k (proper-refuse (eqb at end) 1 end (λ e. omega arith) (λ _. gave))
+  peeked-proper : (at : ℕ) → at ≤ end → Proper (peekedDescriptor s at end)
+  unfolding peekedDescriptor
+  peeked-proper at h = proper-within s at end h k (proper-refuse (eqb at end) 1 end (λ e. omega arith) (λ _. gave))
 
   length-proper : (at code : ℕ) → at ≤ end → Proper (lengthAt s at end code)
   unfolding lengthAt
@@ -26,8 +26,8 @@ module _ (s : List ℕ) (end : ℕ) (k : end ≤ length s) where
       proper-pick (eqb code 15) gave
       (proper-pick (eqb code 14) (proper-then (var-uint-bounded s at end) (var-uint-proper s at end h k) (λ u b. gave)) gave)
 
-  plain-proper : (at : ℕ) (d : TypeDescriptor) → at < end → Proper (plainValue s at end d)
-  unfolding plainValue valueLength lengthTests fitting
+  plain-proper : (at : ℕ) (d : TypeDescriptor) → at < end → Proper (valueWithoutAnnotations s at end d)
+  unfolding valueWithoutAnnotations valueLength lengthTests fitting
   plain-proper at d h =
       proper-refuse (noValue (d .kind)) 22 at (λ e. omega arith) (λ _.
       proper-then (value-length-each s at end d h)
@@ -54,10 +54,10 @@ module _ (s : List ℕ) (end : ℕ) (k : end ≤ length s) where
       proper-refuse (ltb (end - u .next) (u .value)) 5 (u .next) (λ e. omega arith) (λ _.
       proper-refuse (ltb mostAnnotations (u .value)) 26 at (λ e. omega arith) (λ _. gave)))))))
 
-  inner-proper : (at : ℕ) → at ≤ end → Proper (andThen (begun s at end) (innerValue s at end))
+  inner-proper : (at : ℕ) → at ≤ end → Proper (andThen (peekedDescriptor s at end) (innerValue s at end))
   unfolding innerValue
   inner-proper at h =
-      proper-then (begun-each s at end) (begun-proper at h) (λ d b.
+      proper-then (peeked-each s at end) (peeked-proper at h) (λ d b.
       proper-refuse (isWrapper (d .kind)) 27 at (λ e. omega arith) (λ _.
       proper-refuse (isPad (d .kind)) 28 at (λ e. omega arith) (λ _. plain-proper at d (b .before))))
 
@@ -66,14 +66,14 @@ module _ (s : List ℕ) (end : ℕ) (k : end ≤ length s) where
   value-proper at d h =
       proper-pick (isWrapper (d .kind))
       (proper-then (wrapper-each s at end d h) (wrapper-proper at d h) (λ w b.
-      proper-then (inner-begun-each s (w .value) end) (inner-proper (w .value) (b .high)) (λ v o.
+      proper-then (inner-peeked-each s (w .value) end) (inner-proper (w .value) (b .high)) (λ v o.
       proper-refuse (not (eqb (v .end - v .descriptor) (w .expected))) 29 at (λ e. omega arith) (λ _. gave))))
       (plain-proper at d h)
 
   pub frame-proper : (at : ℕ) → at ≤ end → Proper (readFrame s at end)
   unfolding readFrame frameAt
   frame-proper at h =
-      proper-then (begun-each s at end) (begun-proper at h) (λ d b.
+      proper-then (peeked-each s at end) (peeked-proper at h) (λ d b.
       proper-pick (isPad (d .kind))
       (proper-then (pad-each s at end d (b .before)) (pad-proper at d (b .before)) (λ p q. gave))
       (proper-then (value-each s at end d (b .before)) (value-proper at d (b .before)) (λ v o. gave)))

@@ -10,19 +10,19 @@ use lib.ListN.{length, getD}
 use lib.Dec.{ltb, leb, eqb}
 use Rattle.numbers.specs.Outcome.{Outcome, gives, refuses, andThen}
 use Rattle.numbers.specs.Answers.{Unsigned, varUInt}
-use Rattle.numbers.specs.Short.{shortBytes}
+use Rattle.numbers.specs.ShortVarUInt.{shortBytes}
 use Rattle.numbers.specs.Descriptor.{kindOf, descriptorOf}
 use Rattle.numbers.proofs.Outcomes.{by-test, by-case, Each, given, refused, each-refuse, each-then, each-map}
-use Rattle.framing.specs.Answers.{noValue, isWrapper, sizedBy, lengthAt, valueCode, badFloat, shortTimestamp, emptyOrdered, lengthTests, valueLength, fitting, plainValue, annotatedValue, valueAt, valued, readValue, readFrame}
+use Rattle.framing.specs.Answers.{noValue, isWrapper, sizedBy, lengthAt, valueCode, badFloat, shortTimestamp, emptyOrdered, lengthTests, valueLength, fitting, valueWithoutAnnotations, annotatedValue, valueAt, valued, readValue, readFrame}
 use Rattle.framing.specs.Spans.{Spans}
 use Rattle.framing.specs.Format.{typeAt, codeAt, ValueType, typed, null-null, TypedValue, ValueBytes, plain, annotated}
-use Rattle.framing.specs.Private.Telling.{toldLength, tellsLength, readsLength, tooShort}
+use Rattle.framing.specs.Private.InlineLengths.{inlineLength, hasInlineLength, hasLengthField, tooShort}
 use Rattle.framing.specs.ShortValue.{shortValue, noShortValue, shortValueOf}
-use Rattle.framing.proofs.Bounds.{begun-each, length-each, tests-each}
+use Rattle.framing.proofs.Bounds.{peeked-each, length-each, tests-each}
 use Rattle.framing.proofs.Nibbles.{is-value, value-kind, wrapper-kind}
-use Rattle.framing.proofs.Told.{here, plain-told, value-told, values-told}
-use Rattle.framing.proofs.Accepts.{begun-here, values-read}
-use Rattle.framing.proofs.Telling.{told-means, told-read, sized}
+use Rattle.framing.proofs.Soundness.{here, plain-sound, value-sound, values-sound}
+use Rattle.framing.proofs.Completeness.{peeked-here, values-complete}
+use Rattle.framing.proofs.InlineLengths.{inline-means, inline-read, sized}
 
 -- ---- what is said of a reading
 
@@ -82,13 +82,13 @@ module _ (s : List ℕ) (at end : ℕ) {v : Spans} (e : shortValueOf at (readVal
   short-typed : TypedValue s at end v
   short-typed =
       let r = said at (readValue s at end) e in
-      bare (values-told s at end v (r .gave) .0) (r .descriptor)
+      bare (values-sound s at end v (r .gave) .0) (r .descriptor)
 
   pub short-read : readValue s at end ≡ gives v
   short-read = said at (readValue s at end) e .gave
 
   pub short-framed : readFrame s at end ≡ gives (valued v)
-  short-framed = values-read s at end v (plain short-typed) (omega (arith, said at (readValue s at end) e .near)) .1
+  short-framed = values-complete s at end v (plain short-typed) (omega (arith, said at (readValue s at end) e .near)) .1
 
   pub short-bounds : ShortBounds s at end v
   short-bounds =
@@ -113,32 +113,32 @@ module _ (s : List ℕ) (at end : ℕ) {v : Spans} (e : shortValueOf at (readVal
 pub none-left : (s : List ℕ) (at end : ℕ) → (at < end → end ≤ length s → ⊥) → shortValueOf at (readValue s at end) ≡ noShortValue
 unfolding readValue
 none-left s at end h =
-    never-said at (each-then (begun-each s at end) (λ d b. absurd (h (b .before) (b .inside))))
+    never-said at (each-then (peeked-each s at end) (λ d b. absurd (h (b .before) (b .inside))))
 
 module _ (s : List ℕ) (at end : ℕ) (l : at < end) (m : end ≤ length s) where
   -- a value with a wrapper has its descriptor further on
   wrapped-on : isWrapper (here s at .kind) ≡ true → Each (λ v. v .descriptor ≡ at → at + 1 + shortBytes < v .body) (annotatedValue s at end (here s at))
   unfolding valueAt descriptorOf
   wrapped-on w =
-      each-map (rw w at (value-told s at end l m)) (λ v b d.
+      each-map (rw w at (value-sound s at end l m)) (λ v b d.
       absurd (omega (arith, wrapper-kind (typeAt s at) (codeAt s at) w .type-is, low-type (bare (b .0) d .type))))
 
-  unwrapped-none : isWrapper (here s at .kind) ≡ true → Each (λ _. ⊥) (plainValue s at end (here s at))
+  unwrapped-none : isWrapper (here s at .kind) ≡ true → Each (λ _. ⊥) (valueWithoutAnnotations s at end (here s at))
   unfolding descriptorOf
   unwrapped-none w =
-      each-map (plain-told s at end l m) (λ v t. omega (arith, wrapper-kind (typeAt s at) (codeAt s at) w .type-is, low-type (t .type)))
+      each-map (plain-sound s at end l m) (λ v t. omega (arith, wrapper-kind (typeAt s at) (codeAt s at) w .type-is, low-type (t .type)))
 
   -- so that only a value without one is said
-  pub plain-said : shortValueOf at (readValue s at end) ≡ shortValueOf at (plainValue s at end (here s at))
+  pub plain-said : shortValueOf at (readValue s at end) ≡ shortValueOf at (valueWithoutAnnotations s at end (here s at))
   unfolding readValue valueAt
   plain-said =
-      rw (begun-here s at end l m)
+      rw (peeked-here s at end l m)
       (by-case (isWrapper (here s at .kind)) (λ w. rw w (none-said at (wrapped-on w) ∙ sym (never-said at (unwrapped-none w)))) (λ w. rw w))
 
 -- ---- a value without a wrapper, by what its descriptor tells
 
 -- a VarUInt says the length
-record Reads (type code : ℕ) : Type 0 where
+record LengthField (type code : ℕ) : Type 0 where
   pub code-is : eqb (valueCode type code) 14 ≡ true
   pub value : noValue (kindOf type code) ≡ false
   pub float : badFloat type code ≡ false
@@ -149,24 +149,24 @@ unfolding valueCode
 two-types type code =
     by-test (λ n. eqb n 14 ≡ true → 2 ≤ type) (ltb type 2) (λ _ e. absurd (true≢false (sym e))) (λ h _. ltb-false type 2 h)
 
-reads-means : (type code : ℕ) → readsLength type code ≡ true → Reads type code
-unfolding readsLength
-reads-means type code =
-    by-test (λ b. b ≡ true → Reads type code) (eqb (valueCode type code) 14)
+length-field-means : (type code : ℕ) → hasLengthField type code ≡ true → LengthField type code
+unfolding hasLengthField
+length-field-means type code =
+    by-test (λ b. b ≡ true → LengthField type code) (eqb (valueCode type code) 14)
     (λ n.
-    by-test (λ b. b ≡ true → Reads type code) (ltb 13 type) (λ _ e. absurd (true≢false (sym e))) (λ h e.
+    by-test (λ b. b ≡ true → LengthField type code) (ltb 13 type) (λ _ e. absurd (true≢false (sym e))) (λ h e.
     record { code-is = n; value = is-value (typed (omega (arith, two-types type code n)) (ltb-false 13 type h)) .value; float = not-true _ e }))
     (λ _ e. absurd (true≢false (sym e)))
 
 module _ (s : List ℕ) (at end : ℕ) (l : at < end) where
-  pub told-plain : tellsLength (typeAt s at) (codeAt s at) ≡ true → plainValue s at end (here s at) ≡ fitting at end (getD s at 0) (record { body = at + 1; size = toldLength (typeAt s at) (codeAt s at) })
-  unfolding plainValue descriptorOf
-  told-plain h = rw (told-means _ _ h .value, told-read s at end (here s at) h)
+  pub inline-plain : hasInlineLength (typeAt s at) (codeAt s at) ≡ true → valueWithoutAnnotations s at end (here s at) ≡ fitting at end (getD s at 0) (record { body = at + 1; size = inlineLength (typeAt s at) (codeAt s at) })
+  unfolding valueWithoutAnnotations descriptorOf
+  inline-plain h = rw (inline-means _ _ h .value, inline-read s at end (here s at) h)
 
   -- neither the descriptor nor a VarUInt says a length that passes its tests
-  untold-length : noValue (kindOf (typeAt s at) (codeAt s at)) ≡ false → tellsLength (typeAt s at) (codeAt s at) ≡ false → readsLength (typeAt s at) (codeAt s at) ≡ false → Each (λ _. ⊥) (valueLength s at end (here s at))
-  unfolding valueLength lengthTests tellsLength readsLength descriptorOf
-  untold-length v t r =
+  no-inline-length : noValue (kindOf (typeAt s at) (codeAt s at)) ≡ false → hasInlineLength (typeAt s at) (codeAt s at) ≡ false → hasLengthField (typeAt s at) (codeAt s at) ≡ false → Each (λ _. ⊥) (valueLength s at end (here s at))
+  unfolding valueLength lengthTests hasInlineLength hasLengthField descriptorOf
+  no-inline-length v t r =
       let type = typeAt s at in
       let code = codeAt s at in
       by-case (eqb (valueCode type code) 14)
@@ -177,31 +177,31 @@ module _ (s : List ℕ) (at end : ℕ) (l : at < end) where
       (λ n.
       rw (sized s (at + 1) end type code n)
       (each-refuse (badFloat type code) 30 at (λ f.
-      each-refuse (shortTimestamp type code (toldLength type code)) 31 at (λ k.
+      each-refuse (shortTimestamp type code (inlineLength type code)) 31 at (λ k.
       absurd (true≢false (rw (le-ltb 15 code (omega arith), v, n, f, k) at t))))))
 
-  pub untold-plain : tellsLength (typeAt s at) (codeAt s at) ≡ false → readsLength (typeAt s at) (codeAt s at) ≡ false → Each (λ _. ⊥) (plainValue s at end (here s at))
-  unfolding plainValue descriptorOf
-  untold-plain t r =
-      each-refuse (noValue (kindOf (typeAt s at) (codeAt s at))) 22 at (λ v. each-then (untold-length v t r) (λ z f. absurd f))
+  pub no-inline-plain : hasInlineLength (typeAt s at) (codeAt s at) ≡ false → hasLengthField (typeAt s at) (codeAt s at) ≡ false → Each (λ _. ⊥) (valueWithoutAnnotations s at end (here s at))
+  unfolding valueWithoutAnnotations descriptorOf
+  no-inline-plain t r =
+      each-refuse (noValue (kindOf (typeAt s at) (codeAt s at))) 22 at (λ v. each-then (no-inline-length v t r) (λ z f. absurd f))
 
   -- a VarUInt says the length, which then is tested
-  read-length : readsLength (typeAt s at) (codeAt s at) ≡ true → valueLength s at end (here s at) ≡ andThen (andThen (varUInt s (at + 1) end) sizedBy) (lengthTests at (typeAt s at) (codeAt s at))
+  read-length : hasLengthField (typeAt s at) (codeAt s at) ≡ true → valueLength s at end (here s at) ≡ andThen (andThen (varUInt s (at + 1) end) sizedBy) (lengthTests at (typeAt s at) (codeAt s at))
   unfolding valueLength lengthAt descriptorOf
-  read-length r = rw (eqb-true (valueCode (typeAt s at) (codeAt s at)) 14 (reads-means _ _ r .code-is))
+  read-length r = rw (eqb-true (valueCode (typeAt s at) (codeAt s at)) 14 (length-field-means _ _ r .code-is))
 
   -- nothing is near where the VarUInt is long
-  pub long-plain : readsLength (typeAt s at) (codeAt s at) ≡ true → Each (λ u. at + 1 + shortBytes < u .next) (varUInt s (at + 1) end) → Each (λ v. at + 1 + shortBytes < v .body) (plainValue s at end (here s at))
-  unfolding plainValue fitting
+  pub long-plain : hasLengthField (typeAt s at) (codeAt s at) ≡ true → Each (λ u. at + 1 + shortBytes < u .next) (varUInt s (at + 1) end) → Each (λ v. at + 1 + shortBytes < v .body) (valueWithoutAnnotations s at end (here s at))
+  unfolding valueWithoutAnnotations fitting
   long-plain r u =
       each-refuse (noValue (here s at .kind)) 22 at (λ _.
       rw (read-length r)
       (each-then (each-then {Q = λ z. at + 1 + shortBytes < z .body} (each-then {Q = λ z. at + 1 + shortBytes < z .body} u (λ x h. given h)) (λ z h. tests-each at (typeAt s at) (codeAt s at) z h)) (λ z h.
       each-refuse (ltb (end - z .body) (z .size)) 8 at (λ _. given h))))
 
-  module _ (u : Unsigned) (r : readsLength (typeAt s at) (codeAt s at) ≡ true) (e : varUInt s (at + 1) end ≡ gives u) where
-    pub few-plain : tooShort (typeAt s at) (codeAt s at) (u .value) ≡ true → Each (λ _. ⊥) (plainValue s at end (here s at))
-    unfolding plainValue lengthTests tooShort
+  module _ (u : Unsigned) (r : hasLengthField (typeAt s at) (codeAt s at) ≡ true) (e : varUInt s (at + 1) end ≡ gives u) where
+    pub few-plain : tooShort (typeAt s at) (codeAt s at) (u .value) ≡ true → Each (λ _. ⊥) (valueWithoutAnnotations s at end (here s at))
+    unfolding valueWithoutAnnotations lengthTests tooShort
     few-plain h =
         let type = typeAt s at in
         let code = codeAt s at in
@@ -213,9 +213,9 @@ module _ (s : List ℕ) (at end : ℕ) (l : at < end) where
         each-refuse (emptyOrdered type code (u .value)) 32 at (λ o. absurd (true≢false (sym (rw (t, o) at h)))))))
         (λ z f. absurd f)))
 
-    pub read-plain : tooShort (typeAt s at) (codeAt s at) (u .value) ≡ false → plainValue s at end (here s at) ≡ fitting at end (getD s at 0) (record { body = u .next; size = u .value })
-    unfolding plainValue lengthTests tooShort descriptorOf
+    pub read-plain : tooShort (typeAt s at) (codeAt s at) (u .value) ≡ false → valueWithoutAnnotations s at end (here s at) ≡ fitting at end (getD s at 0) (record { body = u .next; size = u .value })
+    unfolding valueWithoutAnnotations lengthTests tooShort descriptorOf
     read-plain =
-        by-test (λ b. b ≡ false → plainValue s at end (here s at) ≡ fitting at end (getD s at 0) (record { body = u .next; size = u .value })) (shortTimestamp (typeAt s at) (codeAt s at) (u .value)) (λ _ f. absurd (true≢false f)) (λ t o.
-        let m = reads-means _ _ r in
+        by-test (λ b. b ≡ false → valueWithoutAnnotations s at end (here s at) ≡ fitting at end (getD s at 0) (record { body = u .next; size = u .value })) (shortTimestamp (typeAt s at) (codeAt s at) (u .value)) (λ _ f. absurd (true≢false f)) (λ t o.
+        let m = length-field-means _ _ r in
         rw (m .value, read-length r, e, m .float, t, o))

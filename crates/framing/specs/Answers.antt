@@ -15,8 +15,8 @@ use Rattle.numbers.specs.declared.type_descriptor.TypeDescriptor.{TypeDescripto
 use Rattle.framing.specs.Spans.{Spans, Padding}
 
 -- An entry "tests 50", is refused with "1 at the part's end", and then looks at the descriptor that stands there.
-unfoldable pub begun : List ℕ → ℕ → ℕ → Outcome TypeDescriptor
-begun s at end = within s at end (refuseIf (eqb at end) 1 end (gives (descriptorOf (getD s at 0))))
+unfoldable pub peekedDescriptor : List ℕ → ℕ → ℕ → Outcome TypeDescriptor
+peekedDescriptor s at end = within s at end (refuseIf (eqb at end) 1 end (gives (descriptorOf (getD s at 0))))
 
 abbrev pub isPad : Kind → Bool
 isPad Value = false
@@ -94,8 +94,8 @@ fitting at end byte l =
     (gives (record { byte = byte; start = at; annotations = at; descriptor = at; body = l .body; end = l .body + l .size }))
 
 -- a value without annotations whose descriptor is at `at`: 22 at a byte that begins none
-unfoldable pub plainValue : List ℕ → ℕ → ℕ → TypeDescriptor → Outcome Spans
-plainValue s at end d =
+unfoldable pub valueWithoutAnnotations : List ℕ → ℕ → ℕ → TypeDescriptor → Outcome Spans
+valueWithoutAnnotations s at end d =
     refuseIf (noValue (d .kind)) 22 at (andThen (valueLength s at end d) (fitting at end (getD s at 0)))
 
 -- "that many unread bytes": 6 after its length
@@ -143,7 +143,7 @@ wrapperAt s at end d = andThen (lengthAt s (at + 1) end (d .«length_code»)) (a
 -- "27, 28, the inner value's own tests", at the inner byte
 unfoldable pub innerValue : List ℕ → ℕ → ℕ → TypeDescriptor → Outcome Spans
 innerValue s at end d =
-    refuseIf (isWrapper (d .kind)) 27 at (refuseIf (isPad (d .kind)) 28 at (plainValue s at end d))
+    refuseIf (isWrapper (d .kind)) 27 at (refuseIf (isPad (d .kind)) 28 at (valueWithoutAnnotations s at end d))
 
 -- "29": the value's length differs from what its wrapper at `at` says
 unfoldable pub wrapped : ℕ → Wrapping → Spans → Outcome Spans
@@ -162,14 +162,14 @@ wrapped at w v =
 -- "1" where nothing follows the annotations, then the value
 unfoldable pub unwrapped : List ℕ → ℕ → ℕ → Wrapping → Outcome Spans
 unwrapped s at end w =
-    andThen (andThen (begun s (w .value) end) (innerValue s (w .value) end)) (wrapped at w)
+    andThen (andThen (peekedDescriptor s (w .value) end) (innerValue s (w .value) end)) (wrapped at w)
 
 unfoldable pub annotatedValue : List ℕ → ℕ → ℕ → TypeDescriptor → Outcome Spans
 annotatedValue s at end d = andThen (wrapperAt s at end d) (unwrapped s at end)
 
 -- a value with or without a wrapper
 unfoldable pub valueAt : List ℕ → ℕ → ℕ → TypeDescriptor → Outcome Spans
-valueAt s at end d = pick (isWrapper (d .kind)) (annotatedValue s at end d) (plainValue s at end d)
+valueAt s at end d = pick (isWrapper (d .kind)) (annotatedValue s at end d) (valueWithoutAnnotations s at end d)
 
 -- what a step meets: a pad or a value
 pub data Frame : Type 0 where
@@ -187,28 +187,28 @@ frameAt s at end d = pick (isPad (d .kind)) (andThen (padAt s at end d) asPaddin
 
 -- The entries: a value, "22 at a pad or E0"; a pad or a value; and the readings that they are made of, 22 where the byte begins something else.
 unfoldable pub readValue : List ℕ → ℕ → ℕ → Outcome Spans
-readValue s at end = andThen (begun s at end) (valueAt s at end)
+readValue s at end = andThen (peekedDescriptor s at end) (valueAt s at end)
 
 unfoldable pub readFrame : List ℕ → ℕ → ℕ → Outcome Frame
-readFrame s at end = andThen (begun s at end) (frameAt s at end)
+readFrame s at end = andThen (peekedDescriptor s at end) (frameAt s at end)
 
 unfoldable pub lengthOrNone : List ℕ → ℕ → ℕ → TypeDescriptor → Outcome Sized
 lengthOrNone s at end d = refuseIf (noValue (d .kind)) 22 at (valueLength s at end d)
 
 unfoldable pub readValueLength : List ℕ → ℕ → ℕ → Outcome Sized
-readValueLength s at end = andThen (begun s at end) (lengthOrNone s at end)
+readValueLength s at end = andThen (peekedDescriptor s at end) (lengthOrNone s at end)
 
 unfoldable pub padOrNone : List ℕ → ℕ → ℕ → TypeDescriptor → Outcome Padding
 padOrNone s at end d = refuseIf (not (isPad (d .kind))) 22 at (padAt s at end d)
 
 unfoldable pub readPad : List ℕ → ℕ → ℕ → Outcome Padding
-readPad s at end = andThen (begun s at end) (padOrNone s at end)
+readPad s at end = andThen (peekedDescriptor s at end) (padOrNone s at end)
 
 unfoldable pub wrapperOrNone : List ℕ → ℕ → ℕ → TypeDescriptor → Outcome Wrapping
 wrapperOrNone s at end d = refuseIf (not (isWrapper (d .kind))) 22 at (wrapperAt s at end d)
 
 unfoldable pub readWrapper : List ℕ → ℕ → ℕ → Outcome Wrapping
-readWrapper s at end = andThen (begun s at end) (wrapperOrNone s at end)
+readWrapper s at end = andThen (peekedDescriptor s at end) (wrapperOrNone s at end)
 
 -- "`raw/annotations_iterator.rs` reads one VarUInt a step": an ID and where the next begins, or the end
 pub data Annotated : Type 0 where

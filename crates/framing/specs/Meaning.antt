@@ -1,5 +1,5 @@
 -- What the framing's answers say of the bytes, in both directions: what is framed is a value or a pad of the Ion document with these places, and one that
--- fits the part and the scope paper's limits is framed. The theorems are proved in proofs/Told.antt and proofs/Accepts.antt.
+-- fits the part and the scope paper's limits is framed. The theorems are proved in proofs/Soundness.antt and proofs/Completeness.antt.
 -- Assumes nothing.
 use Prim.Native.Nat.{ℕ, _+_, _≤_}
 use mathlib.Core.Path.{_≡_}
@@ -20,15 +20,15 @@ Within {at = at} {v = v} (annotated w) =
     × (v .body ≤ v .descriptor + 1 + mostBytes)
 
 -- what is framed is such bytes, within the limits
-abbrev pub ValuesTold : Type 0
-ValuesTold = (s : List ℕ) (at end : ℕ) (v : Spans) → readValue s at end ≡ gives v → (b : ValueBytes s at end v) × Within b
+abbrev pub ValuesSound : Type 0
+ValuesSound = (s : List ℕ) (at end : ℕ) (v : Spans) → readValue s at end ≡ gives v → (b : ValueBytes s at end v) × Within b
 
-abbrev pub PadsTold : Type 0
-PadsTold = (s : List ℕ) (at end : ℕ) (p : Padding) → readPad s at end ≡ gives p → NopPadding s at end p × (p .body ≤ at + 1 + mostBytes)
+abbrev pub PadsSound : Type 0
+PadsSound = (s : List ℕ) (at end : ℕ) (p : Padding) → readPad s at end ≡ gives p → NopPadding s at end p × (p .body ≤ at + 1 + mostBytes)
 
 -- such bytes within the limits are framed, and nothing else is answered
-abbrev pub ValuesRead : Type 0
-ValuesRead = (s : List ℕ) (at end : ℕ) (v : Spans) (b : ValueBytes s at end v) → Within b → (readValue s at end ≡ gives v) × (readFrame s at end ≡ gives (valued v))
+abbrev pub ValuesComplete : Type 0
+ValuesComplete = (s : List ℕ) (at end : ℕ) (v : Spans) (b : ValueBytes s at end v) → Within b → (readValue s at end ≡ gives v) × (readFrame s at end ≡ gives (valued v))
 
-abbrev pub PadsRead : Type 0
-PadsRead = (s : List ℕ) (at end : ℕ) (p : Padding) → NopPadding s at end p → p .body ≤ at + 1 + mostBytes → (readPad s at end ≡ gives p) × (readFrame s at end ≡ gives (padding p))
+abbrev pub PadsComplete : Type 0
+PadsComplete = (s : List ℕ) (at end : ℕ) (p : Padding) → NopPadding s at end p → p .body ≤ at + 1 + mostBytes → (readPad s at end ≡ gives p) × (readFrame s at end ≡ gives (padding p))

@@ -1,4 +1,4 @@
 -- Definitions that only private functions' contracts cite: a reader of the crate needs none of them.
-pub mod Begun
-pub mod Opened
-pub mod Telling
+pub mod Peeked
+pub mod Located
+pub mod InlineLengths

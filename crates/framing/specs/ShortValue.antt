@@ -5,7 +5,7 @@ use Prim.Native.Nat.{ℕ, _+_, _/_, _%_}
 use mathlib.Core.Bool.{Bool, not}
 use lib.Dec.{eqb, leb}
 use Rattle.numbers.specs.Outcome.{Outcome, gives, refuses, pick}
-use Rattle.numbers.specs.Short.{shortBytes}
+use Rattle.numbers.specs.ShortVarUInt.{shortBytes}
 use Rattle.numbers.specs.Descriptor.{kindOf}
 use Rattle.framing.specs.Spans.{Spans}
 use Rattle.framing.specs.Answers.{noValue}

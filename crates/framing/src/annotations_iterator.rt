@@ -3,7 +3,7 @@ ghost use mathlib.Core.Path.{_≡_};
 ghost use Rattle.framing.specs.Answers.{readAnnotation};
 ghost use Rattle.framing.specs.Read.{annotationRead};
 use numbers::binary_buffer::outside;
-use numbers::binary_buffer::read_var_uint;
+use numbers::binary_buffer::read_var_uint_slow;
 use numbers::refusal::OUTSIDE;
 use numbers::refusal::Refusal;
 use numbers::var_uint::VarUInt;
@@ -28,7 +28,7 @@ pub fn read_annotation(s: &[u8], at: usize, end: usize) -> Annotation
     if at == end {
         return Annotation::End;
     }
-    match read_var_uint(s, at, end) {
+    match read_var_uint_slow(s, at, end) {
         VarUInt::Value { value, next } => Annotation::Id { id: value, next },
         VarUInt::Refused(refusal) => Annotation::Refused(refusal),
     }

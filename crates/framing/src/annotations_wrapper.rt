@@ -7,16 +7,16 @@ ghost use lib.ListN.{length};
 ghost use Rattle.numbers.specs.Answers.{mostBytes};
 ghost use Rattle.framing.specs.Answers.{wrapperTests, wrapperAt};
 ghost use Rattle.framing.specs.Read.{wrapperRead};
-ghost use Rattle.framing.specs.Private.Opened.{openedRead, innerAt, openedWrapper, openedAt};
-use crate::binary_buffer::Begun;
-use crate::binary_buffer::begin;
+ghost use Rattle.framing.specs.Private.Located.{locatedRead, innerAt, locationInWrapper, locationAt};
+use crate::binary_buffer::Peeked;
 use crate::binary_buffer::is_pad;
 use crate::binary_buffer::is_wrapper;
 use crate::binary_buffer::no_value;
+use crate::binary_buffer::peek_type_descriptor;
 use crate::encoded_value::AnnotationsWrapper;
 use crate::encoded_value::Length;
 use crate::encoded_value::read_length;
-use numbers::binary_buffer::next_var_uint;
+use numbers::binary_buffer::read_var_uint;
 use numbers::refusal::ANNOTATIONS_CUT;
 use numbers::refusal::ANNOTATIONS_TOO_LONG;
 use numbers::refusal::NO_ANNOTATIONS;
@@ -98,7 +98,7 @@ pub(crate) fn read_wrapper(
 {
     let after = at + 1;
     match read_length(s, after, end, descriptor.length_code) {
-        Length::Known { body, size } => match next_var_uint(s, body, end) {
+        Length::Known { body, size } => match read_var_uint(s, body, end) {
             VarUInt::Value { value, next } => check_wrapper(at, end, body, size, value, next),
             VarUInt::Refused(refusal) => AnnotationsWrapper::Refused(refusal),
         },
@@ -107,7 +107,7 @@ pub(crate) fn read_wrapper(
 }
 
 // Where a value stands, once its wrapper is read: `expected` is how long the wrapper's lengths say that it is, 0 where it has no wrapper.
-pub(crate) enum Opened {
+pub(crate) enum Located {
     Value {
         annotations: usize,
         value: usize,
@@ -118,72 +118,78 @@ pub(crate) enum Opened {
 }
 
 // What stands at `value` in a wrapper, where something does that may.
-fn open_inner(s: &[u8], end: usize, annotations: usize, value: usize, expected: usize) -> Opened
-    ensures { λ r. ⌜ openedRead r ≡ innerAt (now (s .entry)) end (record { annotations = annotations; value = value; expected = expected }) ⌝ }
+fn locate_inner_value(
+    s: &[u8],
+    end: usize,
+    annotations: usize,
+    value: usize,
+    expected: usize,
+) -> Located
+    ensures { λ r. ⌜ locatedRead r ≡ innerAt (now (s .entry)) end (record { annotations = annotations; value = value; expected = expected }) ⌝ }
 {
-    match begin(s, value, end) {
-        Begun::At(descriptor) => {
+    match peek_type_descriptor(s, value, end) {
+        Peeked::At(descriptor) => {
             let kind = descriptor.kind;
             if is_wrapper(kind) {
-                return Opened::Refused(Refusal {
+                return Located::Refused(Refusal {
                     number: WRAPPER_IN_WRAPPER,
                     position: value,
                 });
             }
             if is_pad(kind) {
-                return Opened::Refused(Refusal {
+                return Located::Refused(Refusal {
                     number: PAD_IN_WRAPPER,
                     position: value,
                 });
             }
             if no_value(kind) {
-                return Opened::Refused(Refusal {
+                return Located::Refused(Refusal {
                     number: NOT_A_VALUE,
                     position: value,
                 });
             }
-            Opened::Value {
+            Located::Value {
                 annotations,
                 value,
                 expected,
                 descriptor,
             }
         }
-        Begun::Refused(refusal) => Opened::Refused(refusal),
+        Peeked::Refused(refusal) => Located::Refused(refusal),
     }
 }
 
 // Where the value of the wrapper with this descriptor at `at` stands.
-fn open_wrapper(s: &[u8], at: usize, end: usize, descriptor: TypeDescriptor) -> Opened
+fn locate_annotated_value(s: &[u8], at: usize, end: usize, descriptor: TypeDescriptor) -> Located
     requires { ⌜ (at < end) × (end ≤ length (now s)) ⌝ }
-    ensures { λ r. ⌜ openedRead r ≡ openedWrapper (now (s .entry)) at end descriptor ⌝ }
+    ensures { λ r. ⌜ locatedRead r ≡ locationInWrapper (now (s .entry)) at end descriptor ⌝ }
 {
     match read_wrapper(s, at, end, descriptor) {
         AnnotationsWrapper::Wrapper {
             annotations,
             value,
             expected,
-        } => open_inner(s, end, annotations, value, expected),
-        AnnotationsWrapper::Refused(refusal) => Opened::Refused(refusal),
+        } => locate_inner_value(s, end, annotations, value, expected),
+        AnnotationsWrapper::Refused(refusal) => Located::Refused(refusal),
     }
 }
 
 // Where the value with this descriptor at `at`, or in the wrapper with this descriptor, stands.
-pub(crate) fn open_value(s: &[u8], at: usize, end: usize, descriptor: TypeDescriptor) -> Opened
+pub(crate) fn locate_value(s: &[u8], at: usize, end: usize, descriptor: TypeDescriptor) -> Located
     requires { ⌜ (at < end) × (end ≤ length (now s)) ⌝ }
-    ensures { λ r. ⌜ openedRead r ≡ openedAt (now (s .entry)) at end descriptor ⌝ }
+    ensures { λ r. ⌜ locatedRead r ≡ locationAt (now (s .entry)) at end descriptor ⌝ }
 {
     let kind = descriptor.kind;
     if is_wrapper(kind) {
-        return open_wrapper(s, at, end, descriptor);
+        return locate_annotated_value(s, at, end, descriptor);
     }
     if no_value(kind) {
-        return Opened::Refused(Refusal {
+        return Located::Refused(Refusal {
             number: NOT_A_VALUE,
             position: at,
         });
     }
-    Opened::Value {
+    Located::Value {
         annotations: at,
         value: at,
         expected: 0,

@@ -4,14 +4,14 @@
 ghost use mathlib.Core.Path.{_≡_};
 ghost use Prim.Native.Nat.{ℕ, _+_, _≤_, _<_};
 ghost use lib.ListN.{length, getD};
-ghost use Rattle.numbers.specs.Short.{shortBytes};
-ghost use Rattle.framing.specs.Answers.{begun, isPad, isWrapper, noValue, fitting, padAt, valueAt, frameAt, readValue, readFrame, readValueLength, readPad, readWrapper};
+ghost use Rattle.numbers.specs.ShortVarUInt.{shortBytes};
+ghost use Rattle.framing.specs.Answers.{peekedDescriptor, isPad, isWrapper, noValue, fitting, padAt, valueAt, frameAt, readValue, readFrame, readValueLength, readPad, readWrapper};
 ghost use Rattle.framing.specs.ShortValue.{bareSpans, shortValueOf, beginsValue};
 ghost use Rattle.framing.specs.Read.{lengthRead, padRead, wrapperRead, framedRead, frameRead, spansOf, shortValueRead};
-ghost use Rattle.framing.specs.Private.Begun.{begunRead};
-ghost use Rattle.framing.specs.Private.Opened.{differsFrom, closed, openedValue};
-use crate::annotations_wrapper::Opened;
-use crate::annotations_wrapper::open_value;
+ghost use Rattle.framing.specs.Private.Peeked.{peekedRead};
+ghost use Rattle.framing.specs.Private.Located.{differsFrom, fitted, locatedValue};
+use crate::annotations_wrapper::Located;
+use crate::annotations_wrapper::locate_value;
 use crate::annotations_wrapper::read_wrapper;
 use crate::encoded_value::AnnotationsWrapper;
 use crate::encoded_value::EncodedValue;
@@ -20,10 +20,10 @@ use crate::encoded_value::Framed;
 use crate::encoded_value::Length;
 use crate::encoded_value::NopPad;
 use crate::encoded_value::ShortValue;
+use crate::encoded_value::has_inline_length;
+use crate::encoded_value::has_length_field;
+use crate::encoded_value::inline_length;
 use crate::encoded_value::read_length;
-use crate::encoded_value::reads_length;
-use crate::encoded_value::tells_length;
-use crate::encoded_value::told_length;
 use crate::encoded_value::too_short;
 use crate::encoded_value::value_length;
 use numbers::binary_buffer::outside;
@@ -85,27 +85,27 @@ pub(crate) fn no_value(kind: Kind) -> bool
 }
 
 // Looks at the descriptor at `at`, where one can stand.
-pub(crate) enum Begun {
+pub(crate) enum Peeked {
     At(TypeDescriptor),
     Refused(Refusal),
 }
 
-pub(crate) fn begin(s: &[u8], at: usize, end: usize) -> Begun
-    ensures { λ r. ⌜ begunRead r ≡ begun (now (s .entry)) at end ⌝ }
+pub(crate) fn peek_type_descriptor(s: &[u8], at: usize, end: usize) -> Peeked
+    ensures { λ r. ⌜ peekedRead r ≡ peekedDescriptor (now (s .entry)) at end ⌝ }
 {
     if outside(s, at, end) {
-        return Begun::Refused(Refusal {
+        return Peeked::Refused(Refusal {
             number: OUTSIDE,
             position: 0,
         });
     }
     if at == end {
-        return Begun::Refused(Refusal {
+        return Peeked::Refused(Refusal {
             number: NO_VALUE_LEFT,
             position: end,
         });
     }
-    Begun::At(TypeDescriptor::compared(s[at]))
+    Peeked::At(TypeDescriptor::compared(s[at]))
 }
 
 // The pad with this descriptor at `at`.
@@ -140,7 +140,7 @@ fn differs(expected: usize, size: usize) -> bool
 }
 
 // The value whose descriptor is at `value`, in the item at `at`, and whose body is to begin at `body` and have `size` bytes.
-fn close_value(
+fn fit_value(
     at: usize,
     end: usize,
     annotations: usize,
@@ -151,7 +151,7 @@ fn close_value(
     size: usize,
 ) -> Framed
     requires { ⌜ (value ≤ body) × (body ≤ end) ⌝ }
-    ensures { λ r. ⌜ framedRead r ≡ closed at end annotations value expected byte (record { body = body; size = size }) ⌝ }
+    ensures { λ r. ⌜ framedRead r ≡ fitted at end annotations value expected byte (record { body = body; size = size }) ⌝ }
 {
     if end - body < size {
         return Framed::Refused(Refusal {
@@ -189,7 +189,7 @@ fn fit_short(at: usize, end: usize, body: usize, size: usize) -> ShortValue
 }
 
 // The value that stands at `value` with this descriptor, in the item at `at`.
-fn read_opened(
+fn read_located_value(
     s: &[u8],
     at: usize,
     end: usize,
@@ -199,12 +199,12 @@ fn read_opened(
     descriptor: TypeDescriptor,
 ) -> Framed
     requires { ⌜ (value < end) × (end ≤ length (now s)) ⌝ }
-    ensures { λ r. ⌜ framedRead r ≡ openedValue (now (s .entry)) at end (record { annotations = annotations; value = value; expected = expected; descriptor = descriptor }) ⌝ }
+    ensures { λ r. ⌜ framedRead r ≡ locatedValue (now (s .entry)) at end (record { annotations = annotations; value = value; expected = expected; descriptor = descriptor }) ⌝ }
 {
     let byte = s[value];
     match value_length(s, value, end, descriptor) {
         Length::Known { body, size } => {
-            close_value(at, end, annotations, value, expected, byte, body, size)
+            fit_value(at, end, annotations, value, expected, byte, body, size)
         }
         Length::Refused(refusal) => Framed::Refused(refusal),
     }
@@ -215,14 +215,14 @@ fn read_value_at(s: &[u8], at: usize, end: usize, descriptor: TypeDescriptor) ->
     requires { ⌜ (at < end) × (end ≤ length (now s)) ⌝ }
     ensures { λ r. ⌜ framedRead r ≡ valueAt (now (s .entry)) at end descriptor ⌝ }
 {
-    match open_value(s, at, end, descriptor) {
-        Opened::Value {
+    match locate_value(s, at, end, descriptor) {
+        Located::Value {
             annotations,
             value,
             expected,
             descriptor: inner,
-        } => read_opened(s, at, end, annotations, value, expected, inner),
-        Opened::Refused(refusal) => Framed::Refused(refusal),
+        } => read_located_value(s, at, end, annotations, value, expected, inner),
+        Located::Refused(refusal) => Framed::Refused(refusal),
     }
 }
 
@@ -248,9 +248,9 @@ fn read_frame_at(s: &[u8], at: usize, end: usize, descriptor: TypeDescriptor) ->
 pub fn read_value(s: &[u8], at: usize, end: usize) -> Framed
     ensures { λ r. ⌜ framedRead r ≡ readValue (now (s .entry)) at end ⌝ }
 {
-    match begin(s, at, end) {
-        Begun::At(descriptor) => read_value_at(s, at, end, descriptor),
-        Begun::Refused(refusal) => Framed::Refused(refusal),
+    match peek_type_descriptor(s, at, end) {
+        Peeked::At(descriptor) => read_value_at(s, at, end, descriptor),
+        Peeked::Refused(refusal) => Framed::Refused(refusal),
     }
 }
 
@@ -290,11 +290,11 @@ pub fn short_value(s: &[u8], at: usize, end: usize) -> ShortValue
     }
     let byte = s[at];
     let after = at + 1;
-    if tells_length(byte / 16, byte % 16) {
-        let size = told_length(byte / 16, byte % 16);
+    if has_inline_length(byte / 16, byte % 16) {
+        let size = inline_length(byte / 16, byte % 16);
         return fit_short(at, end, after, size);
     }
-    if !reads_length(byte / 16, byte % 16) {
+    if !has_length_field(byte / 16, byte % 16) {
         return ShortValue::Other;
     }
     match short_var_uint(s, after, end) {
@@ -312,9 +312,9 @@ pub fn short_value(s: &[u8], at: usize, end: usize) -> ShortValue
 pub fn read_frame(s: &[u8], at: usize, end: usize) -> Frame
     ensures { λ r. ⌜ frameRead r ≡ readFrame (now (s .entry)) at end ⌝ }
 {
-    match begin(s, at, end) {
-        Begun::At(descriptor) => read_frame_at(s, at, end, descriptor),
-        Begun::Refused(refusal) => Frame::Refused(refusal),
+    match peek_type_descriptor(s, at, end) {
+        Peeked::At(descriptor) => read_frame_at(s, at, end, descriptor),
+        Peeked::Refused(refusal) => Frame::Refused(refusal),
     }
 }
 
@@ -322,8 +322,8 @@ pub fn read_frame(s: &[u8], at: usize, end: usize) -> Frame
 pub fn read_value_length(s: &[u8], at: usize, end: usize) -> Length
     ensures { λ r. ⌜ lengthRead r ≡ readValueLength (now (s .entry)) at end ⌝ }
 {
-    match begin(s, at, end) {
-        Begun::At(descriptor) => {
+    match peek_type_descriptor(s, at, end) {
+        Peeked::At(descriptor) => {
             let kind = descriptor.kind;
             if no_value(kind) {
                 return Length::Refused(Refusal {
@@ -333,7 +333,7 @@ pub fn read_value_length(s: &[u8], at: usize, end: usize) -> Length
             }
             value_length(s, at, end, descriptor)
         }
-        Begun::Refused(refusal) => Length::Refused(refusal),
+        Peeked::Refused(refusal) => Length::Refused(refusal),
     }
 }
 
@@ -341,8 +341,8 @@ pub fn read_value_length(s: &[u8], at: usize, end: usize) -> Length
 pub fn read_nop_pad(s: &[u8], at: usize, end: usize) -> NopPad
     ensures { λ r. ⌜ padRead r ≡ readPad (now (s .entry)) at end ⌝ }
 {
-    match begin(s, at, end) {
-        Begun::At(descriptor) => {
+    match peek_type_descriptor(s, at, end) {
+        Peeked::At(descriptor) => {
             let kind = descriptor.kind;
             if !is_pad(kind) {
                 return NopPad::Refused(Refusal {
@@ -352,7 +352,7 @@ pub fn read_nop_pad(s: &[u8], at: usize, end: usize) -> NopPad
             }
             read_pad(s, at, end, descriptor)
         }
-        Begun::Refused(refusal) => NopPad::Refused(refusal),
+        Peeked::Refused(refusal) => NopPad::Refused(refusal),
     }
 }
 
@@ -360,8 +360,8 @@ pub fn read_nop_pad(s: &[u8], at: usize, end: usize) -> NopPad
 pub fn read_annotations_wrapper(s: &[u8], at: usize, end: usize) -> AnnotationsWrapper
     ensures { λ r. ⌜ wrapperRead r ≡ readWrapper (now (s .entry)) at end ⌝ }
 {
-    match begin(s, at, end) {
-        Begun::At(descriptor) => {
+    match peek_type_descriptor(s, at, end) {
+        Peeked::At(descriptor) => {
             let kind = descriptor.kind;
             if !is_wrapper(kind) {
                 return AnnotationsWrapper::Refused(Refusal {
@@ -371,6 +371,6 @@ pub fn read_annotations_wrapper(s: &[u8], at: usize, end: usize) -> AnnotationsW
             }
             read_wrapper(s, at, end, descriptor)
         }
-        Begun::Refused(refusal) => AnnotationsWrapper::Refused(refusal),
+        Peeked::Refused(refusal) => AnnotationsWrapper::Refused(refusal),
     }
 }

@@ -4,8 +4,8 @@ ghost use Prim.Native.Nat.{_≤_, _<_};
 ghost use lib.ListN.{length};
 ghost use Rattle.framing.specs.Answers.{lengthAt, valueCode, badFloat, shortTimestamp, emptyOrdered, lengthTests, valueLength};
 ghost use Rattle.framing.specs.Read.{lengthRead};
-ghost use Rattle.framing.specs.Private.Telling.{tellsLength, toldLength, tellingOf, isOrdered, readsLength, tooShort};
-use numbers::binary_buffer::next_var_uint;
+ghost use Rattle.framing.specs.Private.InlineLengths.{hasInlineLength, inlineLength, inlineCodes, isOrdered, hasLengthField, tooShort};
+use numbers::binary_buffer::read_var_uint;
 use numbers::refusal::BAD_FLOAT_LENGTH;
 use numbers::refusal::EMPTY_ORDERED_STRUCT;
 use numbers::refusal::Refusal;
@@ -69,7 +69,7 @@ pub enum ShortValue {
 }
 
 // For each type code, the length codes that tell a value's length by themselves: a bit for each code, the lowest for 0.
-const TELLING: [u16; 16] = [
+const INLINE_LENGTHS: [u16; 16] = [
     0x8000,
     0xFFFF,
     0xBFFF,
@@ -89,7 +89,7 @@ const TELLING: [u16; 16] = [
 ];
 
 // The types whose values have a VarUInt for their length with length code 14: a bit for each type code, the lowest for 0. A float has none.
-const READING: u16 = 0x3FEC;
+const TYPES_WITH_LENGTH_FIELD: u16 = 0x3FEC;
 
 // The length that a length code tells; its VarUInt, if it has one, is at `at`.
 pub(crate) fn read_length(s: &[u8], at: usize, end: usize, code: u8) -> Length
@@ -104,7 +104,7 @@ pub(crate) fn read_length(s: &[u8], at: usize, end: usize, code: u8) -> Length
             size: code as usize,
         };
     }
-    match next_var_uint(s, at, end) {
+    match read_var_uint(s, at, end) {
         VarUInt::Value { value, next } => Length::Known {
             body: next,
             size: value,
@@ -120,16 +120,16 @@ fn wide(x: u8) -> usize
 }
 
 // The length codes of a type that tell a value's length.
-fn telling(type_code: u8) -> u16
+fn inline_codes(type_code: u8) -> u16
     requires { ⌜ «type_code» < 16 ⌝ }
-    ensures { λ r. ⌜ r ≡ tellingOf «type_code» ⌝ }
+    ensures { λ r. ⌜ r ≡ inlineCodes «type_code» ⌝ }
 {
-    TELLING[type_code as usize]
+    INLINE_LENGTHS[type_code as usize]
 }
 
 // Whether a value's descriptor tells its length: no VarUInt says it, and no test of it fails.
-pub(crate) fn tells_length(type_code: u8, length_code: u8) -> bool
-    ensures { λ r. ⌜ r ≡ tellsLength «type_code» «length_code» ⌝ }
+pub(crate) fn has_inline_length(type_code: u8, length_code: u8) -> bool
+    ensures { λ r. ⌜ r ≡ hasInlineLength «type_code» «length_code» ⌝ }
 {
     if 15 < type_code {
         return false;
@@ -137,12 +137,12 @@ pub(crate) fn tells_length(type_code: u8, length_code: u8) -> bool
     if 15 < length_code {
         return false;
     }
-    (telling(type_code) >> length_code) % 2 == 1
+    (inline_codes(type_code) >> length_code) % 2 == 1
 }
 
 // The length that such a descriptor tells.
-pub(crate) fn told_length(type_code: u8, length_code: u8) -> usize
-    ensures { λ r. ⌜ r ≡ toldLength «type_code» «length_code» ⌝ }
+pub(crate) fn inline_length(type_code: u8, length_code: u8) -> usize
+    ensures { λ r. ⌜ r ≡ inlineLength «type_code» «length_code» ⌝ }
 {
     if type_code < 2 {
         return 0;
@@ -197,8 +197,8 @@ fn is_ordered(type_code: u8, length_code: u8) -> bool
 }
 
 // Whether a VarUInt says the length of a value with this descriptor.
-pub(crate) fn reads_length(type_code: u8, length_code: u8) -> bool
-    ensures { λ r. ⌜ r ≡ readsLength «type_code» «length_code» ⌝ }
+pub(crate) fn has_length_field(type_code: u8, length_code: u8) -> bool
+    ensures { λ r. ⌜ r ≡ hasLengthField «type_code» «length_code» ⌝ }
 {
     if length_code != 14 {
         return is_ordered(type_code, length_code);
@@ -206,7 +206,7 @@ pub(crate) fn reads_length(type_code: u8, length_code: u8) -> bool
     if 15 < type_code {
         return false;
     }
-    (READING >> type_code) % 2 == 1
+    (TYPES_WITH_LENGTH_FIELD >> type_code) % 2 == 1
 }
 
 fn short_timestamp(type_code: u8, length_code: u8, size: usize) -> bool
@@ -277,8 +277,8 @@ pub(crate) fn value_length(s: &[u8], at: usize, end: usize, descriptor: TypeDesc
     ensures { λ r. ⌜ lengthRead r ≡ valueLength (now (s .entry)) at end descriptor ⌝ }
 {
     let after = at + 1;
-    if tells_length(descriptor.type_code, descriptor.length_code) {
-        let size = told_length(descriptor.type_code, descriptor.length_code);
+    if has_inline_length(descriptor.type_code, descriptor.length_code) {
+        let size = inline_length(descriptor.type_code, descriptor.length_code);
         return Length::Known { body: after, size };
     }
     let code = value_code(descriptor.type_code, descriptor.length_code);

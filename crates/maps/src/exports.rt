@@ -6,7 +6,7 @@ ghost use Rattle.numbers.specs.Outcome.{refuses};
 ghost use Rattle.stepping.specs.Answers.{answerAt};
 ghost use Rattle.stepping.specs.Read.{itemRead};
 ghost use Rattle.values.specs.Scalars.{stepIn, readScalar, readWithValue};
-ghost use Rattle.walking.specs.Walk.{whole};
+ghost use Rattle.walking.specs.Walk.{wholeWalk};
 ghost use Rattle.walking.specs.Calls.{itemsIn};
 ghost use Rattle.records.specs.Buffer.{recordIn, returned};
 ghost use Rattle.records.specs.Words.{words, annotationWords, bodyWords, readingWords, numberWords};
@@ -21,7 +21,7 @@ use framing::encoded_value::Framed;
 use framing::encoded_value::ShortValue;
 use numbers::binary_buffer::read_int;
 use numbers::binary_buffer::read_var_int;
-use numbers::binary_buffer::read_var_uint;
+use numbers::binary_buffer::read_var_uint_slow;
 use numbers::int::Int;
 use numbers::refusal::OUTSIDE;
 use numbers::refusal::Refusal;
@@ -197,7 +197,7 @@ fn number_by(map: &[u8], end: usize, position: usize, form: u64, size: usize) ->
     ensures { λ r. ⌜ r ≡ numberWords position (numberBy (now (map .entry)) end position form size) ⌝ }
 {
     if form == 0 {
-        return match read_var_uint(map, position, end) {
+        return match read_var_uint_slow(map, position, end) {
             VarUInt::Value { value, next } => number_words(position, false, value, next, next),
             VarUInt::Refused(refusal) => refused_words(refusal),
         };
@@ -261,7 +261,7 @@ pub extern "C" fn ion_map_number(
 // How many items at most `most` calls of the walk hand out, from the map's start.
 #[no_mangle]
 pub extern "C" fn ion_map_walked(map: &[u8], most: u64) -> u64
-    ensures { λ r. ⌜ r ≡ itemsIn (take most (whole (now (map .entry)))) ⌝ }
+    ensures { λ r. ⌜ r ≡ itemsIn (take most (wholeWalk (now (map .entry)))) ⌝ }
 {
     count_items(map, most)
 }

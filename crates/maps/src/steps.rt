@@ -36,42 +36,49 @@ use stepping::cursor::read_name;
 use stepping::cursor::rules_of;
 
 // The words of a step's answer, and where it leaves its caller.
-struct Stepped {
+struct RecordedStep {
     words: [u64; RECORD_WORDS],
     left: Left,
 }
 
 // A short value behind its name.
-fn short_step(rules: Rules, at: usize, id: usize, value: EncodedValue) -> Stepped
+fn short_step(rules: Rules, at: usize, id: usize, value: EncodedValue) -> RecordedStep
     ensures { λ r. ⌜ r .words ≡ words (gives (itemBy rules at id (spansOf value))) ⌝ }
     ensures { λ r. ⌜ r .left ≡ leftOf (gives (itemBy rules at id (spansOf value))) ⌝ }
 {
     let words = item_words(item_of(rules, at, id, value));
-    Stepped {
+    RecordedStep {
         words,
         left: Left::At(value.end),
     }
 }
 
 // Whatever else stands behind a name.
-fn long_step(rules: Rules, map: &[u8], at: usize, id: usize, next: usize, end: usize) -> Stepped
+fn long_step(
+    rules: Rules,
+    map: &[u8],
+    at: usize,
+    id: usize,
+    next: usize,
+    end: usize,
+) -> RecordedStep
     ensures { λ r. ⌜ r .words ≡ words (answerFrom rules (now (map .entry)) at end (record { value = id; next = next })) ⌝ }
     ensures { λ r. ⌜ r .left ≡ leftOf (answerFrom rules (now (map .entry)) at end (record { value = id; next = next })) ⌝ }
 {
     let item = item_from(rules, map, at, id, next, end);
     let words = item_words(item);
     let left = left_by(item);
-    Stepped { words, left }
+    RecordedStep { words, left }
 }
 
 // The step at `at`: the end and a short value are read here.
-fn step_words(rules: Rules, map: &[u8], at: usize, end: usize) -> Stepped
+fn step_words(rules: Rules, map: &[u8], at: usize, end: usize) -> RecordedStep
     requires { ⌜ (at ≤ end) × (end ≤ length (now map)) ⌝ }
     ensures { λ r. ⌜ r .words ≡ words (answerAt rules (now (map .entry)) at end) ⌝ }
     ensures { λ r. ⌜ r .left ≡ leftOf (answerAt rules (now (map .entry)) at end) ⌝ }
 {
     if at == end {
-        return Stepped {
+        return RecordedStep {
             words: end_words(end),
             left: Left::Over,
         };
@@ -89,7 +96,7 @@ fn step_words(rules: Rules, map: &[u8], at: usize, end: usize) -> Stepped
                 ShortValue::Other => long_step(rules, map, at, id, next, end),
             }
         }
-        Named::Refused(refusal) => Stepped {
+        Named::Refused(refusal) => RecordedStep {
             words: refused_words(refusal),
             left: Left::Over,
         },

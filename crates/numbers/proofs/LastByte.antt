@@ -89,8 +89,8 @@ last-is s at end l f = le-antisymm (not-before above) (not-before below)
         omega arith
 
 -- two slices with the same bytes up to and with the last one have it at the same place
-pub last-same : (s t : List ℕ) (at end l : ℕ) → lastByte s at end ≡ l → ((i : ℕ) → at ≤ i → i < end → i ≤ l → getD s i 0 ≡ getD t i 0) → lastByte t at end ≡ l
-last-same s t at end l e same =
+pub last-local : (s t : List ℕ) (at end l : ℕ) → lastByte s at end ≡ l → ((i : ℕ) → at ≤ i → i < end → i ≤ l → getD s i 0 ≡ getD t i 0) → lastByte t at end ≡ l
+last-local s t at end l e same =
     last-is t at end l
     (record {
       low = f .low;

@@ -6,6 +6,6 @@ pub mod Grouping
 pub mod Packing
 pub mod Parts
 pub mod Meaning
-pub mod Short
-pub mod Frames
+pub mod ShortVarUInts
+pub mod Locality
 pub mod Examples

@@ -14,7 +14,7 @@ use Rattle.numbers.specs.Format.{VarBytes, last, more, ofDigits, lowSeve
 use Rattle.numbers.specs.Outcome.{Outcome, gives, refuses, refuseIf, pick, outsideOf}
 use Rattle.numbers.specs.Bytes.{part}
 use Rattle.numbers.specs.Answers.{Unsigned, Signed, Fixed, unsigned, signed, mostBytes, lastByte, varNumber, varUInt, varInt, int}
-use Rattle.numbers.specs.Meaning.{NumberTold, reads, outside, cut-short, too-long, VarUIntTold, VarIntTold, VarUIntReads, VarIntReads, VarUIntSmall, VarIntSmall, IntTold, IntsTold, IntsRead}
+use Rattle.numbers.specs.Meaning.{NumberMeaning, reads, outside, cut-short, too-long, VarUIntSound, VarIntSound, VarUIntComplete, VarIntComplete, VarUIntSmall, VarIntSmall, IntMeaning, IntsSound, IntsComplete}
 use Rattle.numbers.proofs.Outcomes.{by-test, by-refusal, within-part, inside-order, inside-end, outside-cases, Each, given, each-within, each-pick, each-refuse, each-of, each-if, Proper, gave, proper-within, proper-refuse}
 use Rattle.numbers.proofs.Parts.{part-cons, part-none, part-one, part-length, part-at}
 use Rattle.numbers.proofs.Digits.{digit-below, digits-below, lows-below}
@@ -77,9 +77,9 @@ found-at s at end l n =
     }
 
 module _ {A : Type 0} (cut : ℕ) (answer : ℕ → A) (s : List ℕ) (at end : ℕ) where
-  pub number-told : NumberTold cut answer s at end (varNumber cut answer s at end)
+  pub number-sound : NumberMeaning cut answer s at end (varNumber cut answer s at end)
   unfolding varNumber
-  number-told =
+  number-sound =
       by-refusal P (outsideOf s at end) 50 0 (λ h. outside (outside-cases s at end h)) (λ h.
       let a : at ≤ end = inside-order s at end h in
       let b : end ≤ length s = inside-end s at end h in
@@ -90,7 +90,7 @@ module _ {A : Type 0} (cut : ℕ) (answer : ℕ → A) (s : List ℕ) (at end : 
       (λ n. reads (number-at s at end l b d f) (omega (arith, ltb-false mostBytes (l + 1 - at) n)))))
     where
       P : Outcome A → Type 0
-      P = NumberTold cut answer s at end
+      P = NumberMeaning cut answer s at end
 
       l : ℕ
       l = lastByte s at end
@@ -98,30 +98,30 @@ module _ {A : Type 0} (cut : ℕ) (answer : ℕ → A) (s : List ℕ) (at end : 
       f : Found s at (end - at) l
       f = found s at end
 
-  pub number-reads : (next : ℕ) → NumberAt s at end next → next ≤ at + mostBytes → varNumber cut answer s at end ≡ gives (answer next)
+  pub number-complete : (next : ℕ) → NumberAt s at end next → next ≤ at + mostBytes → varNumber cut answer s at end ≡ gives (answer next)
   unfolding varNumber
-  number-reads zero n h = absurd (omega (arith, n .begins))
-  number-reads (suc l) n h =
+  number-complete zero n h = absurd (omega (arith, n .begins))
+  number-complete (suc l) n h =
       let m : NumberAt s at end (l + 1) = subst (NumberAt s at end) (sym (add-one l)) n in
       let e : lastByte s at end ≡ l = last-is s at end l (found-at s at end l m) in
       within-part s at end (omega (arith, n .begins, n .ends)) (n .within)
       ∙ rw (e, ne-eqb l end (omega (arith, n .ends)), le-ltb mostBytes (l + 1 - at) (omega arith), add-one l)
 
-pub var-uint-told : VarUIntTold
+pub var-uint-sound : VarUIntSound
 unfolding varUInt
-var-uint-told s at end = number-told 3 (unsigned s at) s at end
+var-uint-sound s at end = number-sound 3 (unsigned s at) s at end
 
-pub var-int-told : VarIntTold
+pub var-int-sound : VarIntSound
 unfolding varInt
-var-int-told s at end = number-told 4 (signed s at) s at end
+var-int-sound s at end = number-sound 4 (signed s at) s at end
 
-pub var-uint-reads : VarUIntReads
+pub var-uint-complete : VarUIntComplete
 unfolding varUInt
-var-uint-reads s at end next n h = number-reads 3 (unsigned s at) s at end next n h
+var-uint-complete s at end next n h = number-complete 3 (unsigned s at) s at end next n h
 
-pub var-int-reads : VarIntReads
+pub var-int-complete : VarIntComplete
 unfolding varInt
-var-int-reads s at end next n h = number-reads 4 (signed s at) s at end next n h
+var-int-complete s at end next n h = number-complete 4 (signed s at) s at end next n h
 
 -- what was read, where something was
 pub record ReadAt {A : Type 0} (answer : ℕ → A) (s : List ℕ) (at end : ℕ) (a : A) : Type 0 where
@@ -130,17 +130,17 @@ pub record ReadAt {A : Type 0} (answer : ℕ → A) (s : List ℕ) (at end : ℕ
   pub short : next ≤ at + mostBytes
   pub is : a ≡ answer next
 
-pub read-at : {A : Type 0} {cut : ℕ} {answer : ℕ → A} {s : List ℕ} {at end : ℕ} {o : Outcome A} {a : A} → NumberTold cut answer s at end o → o ≡ gives a → ReadAt answer s at end a
+pub read-at : {A : Type 0} {cut : ℕ} {answer : ℕ → A} {s : List ℕ} {at end : ℕ} {o : Outcome A} {a : A} → NumberMeaning cut answer s at end o → o ≡ gives a → ReadAt answer s at end a
 read-at (reads {next} n h) e = record { next = next; number = n; short = h; is = cc }
 read-at (outside h) e = absurd (let z : _≡_ {A = ℕ} 0 1 = cc in omega arith)
 read-at (cut-short a b h) e = absurd (let z : _≡_ {A = ℕ} 0 1 = cc in omega arith)
 read-at (too-long n h) e = absurd (let z : _≡_ {A = ℕ} 0 1 = cc in omega arith)
 
 pub var-uint-at : (s : List ℕ) (at end : ℕ) {u : Unsigned} → varUInt s at end ≡ gives u → ReadAt (unsigned s at) s at end u
-var-uint-at s at end e = read-at (var-uint-told s at end) e
+var-uint-at s at end e = read-at (var-uint-sound s at end) e
 
 pub var-int-at : (s : List ℕ) (at end : ℕ) {i : Signed} → varInt s at end ≡ gives i → ReadAt (signed s at) s at end i
-var-int-at s at end e = read-at (var-int-told s at end) e
+var-int-at s at end e = read-at (var-int-sound s at end) e
 
 pub var-uint-each : (s : List ℕ) (at end : ℕ) → Each (ReadAt (unsigned s at) s at end) (varUInt s at end)
 var-uint-each s at end = each-if (varUInt s at end) (λ u e. var-uint-at s at end e)
@@ -204,9 +204,9 @@ var-uint-proper s at end h k =
     (proper-refuse (eqb (lastByte s at end) end) 3 end (λ e. omega arith) (λ _.
     proper-refuse (ltb mostBytes (lastByte s at end + 1 - at)) 20 at (λ e. omega arith) (λ _. gave)))
 
-int-told : (s : List ℕ) (at end size : ℕ) → Each (IntTold s at end size) (int s at end size)
+int-sound : (s : List ℕ) (at end size : ℕ) → Each (IntMeaning s at end size) (int s at end size)
 unfolding int intNegative intMagnitude ofDigits
-int-told s at end size =
+int-sound s at end size =
     each-within s at end (λ a b.
     each-pick (eqb size 0)
     (λ z.
@@ -236,12 +236,12 @@ int-told s at end size =
       within = b;
     }))))
 
-pub ints-told : IntsTold
-ints-told s at end size i e = each-of (int-told s at end size) e
+pub ints-sound : IntsSound
+ints-sound s at end size i e = each-of (int-sound s at end size) e
 
-pub ints-read : IntsRead
+pub ints-complete : IntsComplete
 unfolding int
-ints-read s at end size h k =
+ints-complete s at end size h k =
     subst P (sym (within-part s at end (omega arith) k))
     (by-test P (eqb size 0) (λ _. (_, refl)) (λ _.
     by-refusal P (ltb (end - at) size) 9 at (λ l. absurd (omega (arith, ltb-true (end - at) size l))) (λ _. (_, refl))))

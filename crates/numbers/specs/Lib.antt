@@ -2,7 +2,7 @@ pub mod Bytes
 pub mod Outcome
 pub mod Format
 pub mod Answers
-pub mod Short
+pub mod ShortVarUInt
 pub mod Descriptor
 pub mod Read
 pub mod Meaning

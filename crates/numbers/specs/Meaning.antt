@@ -13,25 +13,25 @@ use Rattle.numbers.specs.Answers.{Unsigned, Signed, Fixed, unsigned, sig
 
 -- what the bytes are under each answer: at most nine of them, which the answer is made of; a part outside the slice; no last byte in the part; or
 -- more than nine bytes
-pub data NumberTold {A : Type 0} (cut : ℕ) (answer : ℕ → A) (s : List ℕ) (at end : ℕ) : Outcome A → Type 0 where
-  reads : {next : ℕ} → NumberAt s at end next → next ≤ at + mostBytes → NumberTold cut answer s at end (gives (answer next))
-  outside : (end < at) ⊎ (length s < end) → NumberTold cut answer s at end (refuses 50 0)
-  cut-short : at ≤ end → end ≤ length s → ((i : ℕ) → at ≤ i → i < end → getD s i 0 < 128) → NumberTold cut answer s at end (refuses cut end)
-  too-long : {next : ℕ} → NumberAt s at end next → at + mostBytes < next → NumberTold cut answer s at end (refuses 20 at)
+pub data NumberMeaning {A : Type 0} (cut : ℕ) (answer : ℕ → A) (s : List ℕ) (at end : ℕ) : Outcome A → Type 0 where
+  reads : {next : ℕ} → NumberAt s at end next → next ≤ at + mostBytes → NumberMeaning cut answer s at end (gives (answer next))
+  outside : (end < at) ⊎ (length s < end) → NumberMeaning cut answer s at end (refuses 50 0)
+  cut-short : at ≤ end → end ≤ length s → ((i : ℕ) → at ≤ i → i < end → getD s i 0 < 128) → NumberMeaning cut answer s at end (refuses cut end)
+  too-long : {next : ℕ} → NumberAt s at end next → at + mostBytes < next → NumberMeaning cut answer s at end (refuses 20 at)
 
 -- every answer of a VarUInt's reading and of a VarInt's means this
-abbrev pub VarUIntTold : Type 0
-VarUIntTold = (s : List ℕ) (at end : ℕ) → NumberTold 3 (unsigned s at) s at end (varUInt s at end)
+abbrev pub VarUIntSound : Type 0
+VarUIntSound = (s : List ℕ) (at end : ℕ) → NumberMeaning 3 (unsigned s at) s at end (varUInt s at end)
 
-abbrev pub VarIntTold : Type 0
-VarIntTold = (s : List ℕ) (at end : ℕ) → NumberTold 4 (signed s at) s at end (varInt s at end)
+abbrev pub VarIntSound : Type 0
+VarIntSound = (s : List ℕ) (at end : ℕ) → NumberMeaning 4 (signed s at) s at end (varInt s at end)
 
 -- such bytes, nine at most, are read, and nothing else is answered
-abbrev pub VarUIntReads : Type 0
-VarUIntReads = (s : List ℕ) (at end next : ℕ) → NumberAt s at end next → next ≤ at + mostBytes → varUInt s at end ≡ gives (unsigned s at next)
+abbrev pub VarUIntComplete : Type 0
+VarUIntComplete = (s : List ℕ) (at end next : ℕ) → NumberAt s at end next → next ≤ at + mostBytes → varUInt s at end ≡ gives (unsigned s at next)
 
-abbrev pub VarIntReads : Type 0
-VarIntReads = (s : List ℕ) (at end next : ℕ) → NumberAt s at end next → next ≤ at + mostBytes → varInt s at end ≡ gives (signed s at next)
+abbrev pub VarIntComplete : Type 0
+VarIntComplete = (s : List ℕ) (at end next : ℕ) → NumberAt s at end next → next ≤ at + mostBytes → varInt s at end ≡ gives (signed s at next)
 
 -- a VarUInt is below 2^63, and a VarInt's magnitude below 2^62
 abbrev pub VarUIntSmall : Type 0
@@ -41,7 +41,7 @@ abbrev pub VarIntSmall : Type 0
 VarIntSmall = (s : List ℕ) (at end : ℕ) (i : Signed) → varInt s at end ≡ gives i → i .magnitude < 2 ^ 62
 
 -- an Int's answer has the sign of its bytes, and its seven bits and the bytes after them are their magnitude
-pub record IntTold (s : List ℕ) (at end size : ℕ) (i : Fixed) : Type 0 where
+pub record IntMeaning (s : List ℕ) (at end size : ℕ) (i : Fixed) : Type 0 where
   pub sign : i .negative ≡ intNegative (part s at (at + size))
   pub magnitude : ofDigits 256 (i .first ∷ part s (i .rest) (i .end)) ≡ intMagnitude (part s at (at + size))
   pub last : i .end ≡ at + size
@@ -50,9 +50,9 @@ pub record IntTold (s : List ℕ) (at end size : ℕ) (i : Fixed) : Type 0 where
   pub ends : i .end ≤ end
   pub within : end ≤ length s
 
-abbrev pub IntsTold : Type 0
-IntsTold = (s : List ℕ) (at end size : ℕ) (i : Fixed) → int s at end size ≡ gives i → IntTold s at end size i
+abbrev pub IntsSound : Type 0
+IntsSound = (s : List ℕ) (at end size : ℕ) (i : Fixed) → int s at end size ≡ gives i → IntMeaning s at end size i
 
 -- an Int that fits the part is read
-abbrev pub IntsRead : Type 0
-IntsRead = (s : List ℕ) (at end size : ℕ) → at + size ≤ end → end ≤ length s → (i : Fixed) × (int s at end size ≡ gives i)
+abbrev pub IntsComplete : Type 0
+IntsComplete = (s : List ℕ) (at end size : ℕ) → at + size ≤ end → end ≤ length s → (i : Fixed) × (int s at end size ≡ gives i)

@@ -2,7 +2,7 @@
 -- Assumes nothing.
 use Rattle.numbers.specs.Outcome.{Outcome, gives, refuses}
 use Rattle.numbers.specs.Answers.{Unsigned, Signed, Fixed}
-use Rattle.numbers.specs.Short.{Short, short, none}
+use Rattle.numbers.specs.ShortVarUInt.{ShortUnsigned, short, none}
 use Rattle.numbers.specs.declared.refusal.Refusal.{Refusal}
 use Rattle.numbers.specs.declared.var_uint.VarUInt.{VarUInt}
 use Rattle.numbers.specs.declared.var_uint.VarUInt.the-variants.{Value as UnsignedValue, Refused as UnsignedRefused}
@@ -20,9 +20,9 @@ abbrev pub varUIntRead : VarUInt → Outcome Unsigned
 varUIntRead (UnsignedValue v n) = gives (record { value = v; next = n })
 varUIntRead (UnsignedRefused e) = refusalRead e
 
-abbrev pub shortRead : ShortVarUInt → Short
-shortRead (ShortValue v n) = short (record { value = v; next = n })
-shortRead ShortOther = none
+abbrev pub shortVarUIntRead : ShortVarUInt → ShortUnsigned
+shortVarUIntRead (ShortValue v n) = short (record { value = v; next = n })
+shortVarUIntRead ShortOther = none
 
 abbrev pub varIntRead : VarInt → Outcome Signed
 varIntRead (SignedValue m v n) = gives (record { negative = m; magnitude = v; next = n })

@@ -6,8 +6,8 @@ ghost use Prim.Native.Nat.{ℕ, _+_, _-_, _≤_, _<_, _^_};
 ghost use lib.ListN.{length};
 ghost use Rattle.numbers.specs.Outcome.{outsideOf};
 ghost use Rattle.numbers.specs.Answers.{mostBytes, varUInt, varInt, int, intRest};
-ghost use Rattle.numbers.specs.Short.{shortOf};
-ghost use Rattle.numbers.specs.Read.{varUIntRead, shortRead, varIntRead, intRead};
+ghost use Rattle.numbers.specs.ShortVarUInt.{shortVarUIntOf};
+ghost use Rattle.numbers.specs.Read.{varUIntRead, shortVarUIntRead, varIntRead, intRead};
 ghost use Rattle.numbers.specs.Private.Groups.{groups, Begins};
 use crate::int::Int;
 use crate::refusal::INT_CUT;
@@ -85,16 +85,6 @@ fn read_groups(s: &[u8], from: usize, at: usize, end: usize, first: usize, cut: 
     refused(cut, end)
 }
 
-// Reads a VarUInt.
-pub fn read_var_uint(s: &[u8], at: usize, end: usize) -> VarUInt
-    ensures { λ r. ⌜ varUIntRead r ≡ varUInt (now (s .entry)) at end ⌝ }
-{
-    if outside(s, at, end) {
-        return refused(OUTSIDE, 0);
-    }
-    read_groups(s, at, at, end, 0, VAR_UINT_CUT)
-}
-
 // The first bytes of a VarUInt, three at most.
 enum FirstBytes {
     // They are all of it: what it is worth, and where it ends.
@@ -106,7 +96,7 @@ enum FirstBytes {
 }
 
 // Reads the first bytes of a VarUInt, three at most.
-fn read_first(s: &[u8], at: usize, end: usize) -> FirstBytes
+fn read_first_bytes(s: &[u8], at: usize, end: usize) -> FirstBytes
     ensures { λ r. ⌜ Begins (now (s .entry)) at end r ⌝ }
 {
     if s.len() < end {
@@ -158,24 +148,34 @@ fn read_first(s: &[u8], at: usize, end: usize) -> FirstBytes
 
 // Reads a VarUInt of three bytes at most: most lengths and field IDs have no more.
 pub fn short_var_uint(s: &[u8], at: usize, end: usize) -> ShortVarUInt
-    ensures { λ r. ⌜ shortRead r ≡ shortOf at (varUInt (now (s .entry)) at end) ⌝ }
+    ensures { λ r. ⌜ shortVarUIntRead r ≡ shortVarUIntOf at (varUInt (now (s .entry)) at end) ⌝ }
 {
-    match read_first(s, at, end) {
+    match read_first_bytes(s, at, end) {
         FirstBytes::All { value, next } => ShortVarUInt::Value { value, next },
         FirstBytes::More { value: _, next: _ } => ShortVarUInt::Other,
         FirstBytes::Outside => ShortVarUInt::Other,
     }
 }
 
-// Reads a VarUInt as `read_var_uint` does, a short one in place.
-pub fn next_var_uint(s: &[u8], at: usize, end: usize) -> VarUInt
+// Reads a VarUInt as `read_var_uint_slow` does, a short one in place.
+pub fn read_var_uint(s: &[u8], at: usize, end: usize) -> VarUInt
     ensures { λ r. ⌜ varUIntRead r ≡ varUInt (now (s .entry)) at end ⌝ }
 {
-    match read_first(s, at, end) {
+    match read_first_bytes(s, at, end) {
         FirstBytes::All { value, next } => VarUInt::Value { value, next },
         FirstBytes::More { value, next } => read_groups(s, at, next, end, value, VAR_UINT_CUT),
         FirstBytes::Outside => refused(OUTSIDE, 0),
     }
+}
+
+// Reads a VarUInt.
+pub fn read_var_uint_slow(s: &[u8], at: usize, end: usize) -> VarUInt
+    ensures { λ r. ⌜ varUIntRead r ≡ varUInt (now (s .entry)) at end ⌝ }
+{
+    if outside(s, at, end) {
+        return refused(OUTSIDE, 0);
+    }
+    read_groups(s, at, at, end, 0, VAR_UINT_CUT)
 }
 
 // Reads a VarInt.

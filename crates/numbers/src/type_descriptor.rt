@@ -49,7 +49,7 @@ fn packed(byte: u8) -> u8
 }
 
 // The kind that has a number.
-fn kind_of(number: u8) -> Kind
+fn numbered_kind(number: u8) -> Kind
     ensures { λ r. ⌜ r ≡ numberedKind number ⌝ }
 {
     match number {
@@ -90,7 +90,7 @@ impl TypeDescriptor {
         ensures { λ r. ⌜ r ≡ descriptorOf byte ⌝ }
     {
         let entry = packed(byte);
-        let kind = kind_of(entry / 16);
+        let kind = numbered_kind(entry / 16);
         TypeDescriptor {
             type_code: byte / 16,
             length_code: entry % 16,

@@ -8,7 +8,7 @@ use Rattle.numbers.specs.Answers.{Unsigned, Signed, Fixed}
 use Rattle.framing.specs.Spans.{Spans}
 use Rattle.framing.specs.Answers.{Annotated, ident, finished}
 use Rattle.stepping.specs.Items.{Item, finish, marker, value, field}
-use Rattle.stepping.specs.Kinds.{kindOf}
+use Rattle.stepping.specs.Kinds.{partKind}
 use Rattle.values.specs.Scalars.{Opened, opened, Scalar, null, bool, int as whole, float, decimal, timestamp, symbol, string, clob, blob, container, ReadValue, spanOf}
 
 -- ---- refusals: the same words for every kind
@@ -62,7 +62,7 @@ enter v = andThen (opened v) (enteredAt (v .descriptor))
 
 -- kind 6, the body's rule set, the descriptor's position, 0, 0, the body's start and end, 0
 abbrev pub bodyWords : Outcome Entered → List ℕ
-bodyWords (gives e) = 6 ∷ kindOf (e .body .rules) ∷ e .descriptor ∷ 0 ∷ 0 ∷ e .body .body ∷ e .body .end ∷ 0 ∷ []
+bodyWords (gives e) = 6 ∷ partKind (e .body .rules) ∷ e .descriptor ∷ 0 ∷ 0 ∷ e .body .body ∷ e .body .end ∷ 0 ∷ []
 bodyWords (refuses number at) = refusedWords number at
 
 -- ---- the scalar reading

@@ -13,7 +13,7 @@ use framing::encoded_value::EncodedValue;
 use numbers::refusal::OUTSIDE;
 use numbers::refusal::Refusal;
 use stepping::cursor::Item;
-use stepping::cursor::kind_of;
+use stepping::cursor::part_kind;
 use values::value::Body;
 use values::value::Scalar;
 
@@ -117,7 +117,7 @@ pub fn body_words(descriptor: usize, body: Body) -> [u64; RECORD_WORDS]
     match body {
         Body::Open { rules, cursor } => [
             6,
-            kind_of(rules),
+            part_kind(rules),
             descriptor as u64,
             0,
             0,

@@ -1,8 +1,8 @@
 pub mod Nest
 pub mod Standing
-pub mod Over
-pub mod Same
-pub mod Apart
+pub mod TileLocality
+pub mod ValueLocality
+pub mod Overwriting
 pub mod Machine
 pub mod Values
 pub mod Entries

@@ -23,7 +23,7 @@ use Rattle.stepping.specs.Items.{Item as Answer, finish, marker, value, field}
 use Rattle.stepping.specs.Answers.{Stepped, stepOf}
 use Rattle.stepping.specs.Read.{itemRead, stepRead}
 use Rattle.stepping.specs.Runs.{cursor, Answers, Run, none, call}
-use Rattle.runs.specs.Reached.{Part, whole, inner, Handed, Body, of-value, of-pad, AnnotationRun, none as no-more, call as one-more}
+use Rattle.runs.specs.Reached.{Part, the-stream, inner, Handed, ReachedBody, of-value, of-pad, AnnotationRun, none as no-more, call as one-more}
 use Rattle.stepping.specs.declared.cursor.Cursor.{Cursor}
 use Rattle.stepping.specs.declared.cursor.Rules.{Rules}
 use Rattle.stepping.specs.declared.cursor.Rules.the-variants.{Stream, Sequence, Fields}
@@ -33,8 +33,8 @@ use Rattle.stepping.specs.declared.cursor.Step.{Step}
 use Rattle.runs.proofs.Machine as machine
 use Rattle.runs.proofs.Values.{num, parts, nth, choose}
 use Rattle.stepping.proofs.Tiling.{tiling}
-use Rattle.runs.proofs.Apart.{apart}
-use Rattle.runs.specs.Program.{Program, BytesRead, ProgramTiling, ProgramApart}
+use Rattle.runs.proofs.Overwriting.{overwriting}
+use Rattle.runs.specs.Program.{Program, BytesRead, ProgramTiling, ProgramOverwriting}
 use Rattle.runs.proofs.Entries.{annotates, enters, reads}
 use Rattle.stepping.proofs.cursor.Step.Laws.{lowered, lowers}
 use Rattle.stepping.proofs.cursor.Cursor.next_in_stream as in-stream
@@ -132,14 +132,14 @@ map-run f (call {c} {r} a run) = call (f c r a) (map-run f run)
 
 -- and so does what calls reach
 map-part {ℓ} : {A : Rules → Cursor → Stepped → Type ℓ} {B : Rules → Cursor → Stepped → Type 0} → ((rules : Rules) (c : Cursor) (r : Stepped) → A rules c r → B rules c r) → {lo₀ hi₀ lo hi : ℕ} {rules : Rules} → Part A lo₀ hi₀ rules lo hi → Part B lo₀ hi₀ rules lo hi
-map-part f whole = whole
+map-part f the-stream = the-stream
 map-part f (inner {rules} part run among of is) = inner (map-part f part) (map-run (f rules) run) among of is
 
 map-handed {ℓ} : {A : Rules → Cursor → Stepped → Type ℓ} {B : Rules → Cursor → Stepped → Type 0} → ((rules : Rules) (c : Cursor) (r : Stepped) → A rules c r → B rules c r) → {lo₀ hi₀ lo hi : ℕ} {rules : Rules} {i : Answer} → Handed A lo₀ hi₀ rules lo hi i → Handed B lo₀ hi₀ rules lo hi i
 map-handed f {rules = rules} h =
     record { part = map-part f (h .part); calls = h .calls; run = map-run (f rules) (h .run); among = h .among }
 
-map-body {ℓ} : {A : Rules → Cursor → Stepped → Type ℓ} {B : Rules → Cursor → Stepped → Type 0} → ((rules : Rules) (c : Cursor) (r : Stepped) → A rules c r → B rules c r) → {s : List ℕ} {lo₀ hi₀ b e : ℕ} → Body s A lo₀ hi₀ b e → Body s B lo₀ hi₀ b e
+map-body {ℓ} : {A : Rules → Cursor → Stepped → Type ℓ} {B : Rules → Cursor → Stepped → Type 0} → ((rules : Rules) (c : Cursor) (r : Stepped) → A rules c r → B rules c r) → {s : List ℕ} {lo₀ hi₀ b e : ℕ} → ReachedBody s A lo₀ hi₀ b e → ReachedBody s B lo₀ hi₀ b e
 map-body f (of-value handed of) = of-value (map-handed f handed) of
 map-body f (of-pad {rules} part run among) = of-pad (map-part f part) (map-run (f rules) run) among
 
@@ -174,11 +174,11 @@ module _ {M : Type 1} (𝓤 : URA M) (H : Heap 𝓤) (𝓜 : Model 𝓤 H) (𝓖
   unfolding scalarPart
   bytes-read s lo hi at r p = p .2 ∙ ap (partOf (now s)) (reads 𝓤 H 𝓜 𝓖 κs s lo hi at (p .0) (p .1))
 
-  pub program-apart : ProgramApart 𝓤 H 𝓜 𝓖 κs
-  program-apart s s' lo₀ hi₀ b e body agree =
+  pub program-overwriting : ProgramOverwriting 𝓤 H 𝓜 𝓖 κs
+  program-overwriting s s' lo₀ hi₀ b e body agree =
       let on : (rules : Rules) (c : Cursor) (r : Stepped) → Program 𝓤 H 𝓜 𝓖 κs rules s c r → Answers rules (now s) c r = λ rules. answers rules s in
       let on' : (rules : Rules) (c : Cursor) (r : Stepped) → Program 𝓤 H 𝓜 𝓖 κs rules s' c r → Answers rules (now s') c r = λ rules. answers rules s' in
-      let same = apart (now s) (now s') lo₀ hi₀ b e (map-body on body) agree in
+      let same = overwriting (now s) (now s') lo₀ hi₀ b e (map-body on body) agree in
       record {
         steps = λ rules lo hi part out rs rs' n run run'.
             same .steps rules lo hi (either (map-part on) (map-part on') part) out rs rs' n (map-run (on rules) run) (map-run (on' rules) run');

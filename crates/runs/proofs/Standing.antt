@@ -12,11 +12,11 @@ use Rattle.framing.proofs.Bounds.{value-in}
 use Rattle.stepping.specs.Items.{Item, finish, marker, value, field, itemEnd, Pad}
 use Rattle.stepping.specs.Answers.{Tile, skip, hand, tileAt, Found, found, after, Stepped, stepOf}
 use Rattle.stepping.specs.Runs.{cursor, Answers, Run, none, call, handedOut, items}
-use Rattle.runs.specs.Reached.{ValueOf, a-value, a-field, Part, whole, inner, left, Body, of-value, of-pad}
+use Rattle.runs.specs.Reached.{ValueOf, a-value, a-field, Part, the-stream, inner, left, ReachedBody, of-value, of-pad}
 use Rattle.stepping.specs.declared.cursor.Cursor.{Cursor}
 use Rattle.stepping.specs.declared.cursor.Rules.{Rules}
 use Rattle.stepping.specs.declared.cursor.Rules.the-variants.{Stream, Sequence}
-use Rattle.stepping.proofs.Walking.{Walks, at-end, at-pad, at-item, at-refusal, Finds, unfit, fit, finds}
+use Rattle.stepping.proofs.PadSkipping.{Skipping, at-end, at-pad, at-item, at-refusal, Finds, unfit, fit, finds}
 use Rattle.stepping.proofs.Places.{ValueIn, a-marker, a-value as value-in, a-field as field-in, TileIn, skip-in, hand-in, tile-in}
 use Rattle.values.specs.Scalars.{isContainer, bodyRules}
 use Rattle.runs.proofs.Nest as nest
@@ -93,11 +93,11 @@ module _ (s : List ℕ) where
   past-pad t (the-end f) = the-end (on t f)
   past-pad t a-refusal = a-refusal
 
-  walk-hits : {rules : Rules} {hi p : ℕ} {f : Found} → Walks rules s hi p f → Hits rules hi p (f .answer)
-  walk-hits at-end = the-end stay
-  walk-hits {rules} {hi} (at-pad {at} {b} {e} l h d) = past-pad (stands s rules hi at (skip b e) l h) (walk-hits d)
-  walk-hits (at-item l h) = an-item stay l h
-  walk-hits (at-refusal l h) = a-refusal
+  skipping-hits : {rules : Rules} {hi p : ℕ} {f : Found} → Skipping rules s hi p f → Hits rules hi p (f .answer)
+  skipping-hits at-end = the-end stay
+  skipping-hits {rules} {hi} (at-pad {at} {b} {e} l h d) = past-pad (stands s rules hi at (skip b e) l h) (skipping-hits d)
+  skipping-hits (at-item l h) = an-item stay l h
+  skipping-hits (at-refusal l h) = a-refusal
 
   -- and the cursor that it leaves is led to
   leads : {rules : Rules} {hi p : ℕ} {o : Outcome Item} → Hits rules hi p o → To rules hi p (after (cursor p hi) o .at)
@@ -109,7 +109,7 @@ module _ (s : List ℕ) where
 
   of-finds : {rules : Rules} {c : Cursor} {f : Found} → Finds rules s c f → Hits rules (c .end) (c .at) (f .answer)
   of-finds (unfit h) = a-refusal
-  of-finds (fit l m w) = walk-hits w
+  of-finds (fit l m w) = skipping-hits w
 
   pub record Called (rules : Rules) (c : Cursor) (r : Stepped) : Type 0 where
     pub hits : Hits rules (c .end) (c .at) (r .answer)
@@ -184,15 +184,15 @@ module _ (s : List ℕ) where
     pub before : p .start < hi
     pub is : tileAt rules s (p .start) hi ≡ gives (skip (p .body) (p .end))
 
-  walk-pads : (rules : Rules) (hi : ℕ) {at : ℕ} {f : Found} {p : Pad} → Walks rules s hi at f → List·Memᴰ p (f .pads) → PadStands rules hi at p
-  walk-pads rules hi at-end m = elim m [ ]
-  walk-pads rules hi (at-item l h) m = elim m [ ]
-  walk-pads rules hi (at-refusal l h) m = elim m [ ]
-  walk-pads rules hi {p = p} (at-pad {at} {b} {e} l h d) m =
+  skipping-pads : (rules : Rules) (hi : ℕ) {at : ℕ} {f : Found} {p : Pad} → Skipping rules s hi at f → List·Memᴰ p (f .pads) → PadStands rules hi at p
+  skipping-pads rules hi at-end m = elim m [ ]
+  skipping-pads rules hi (at-item l h) m = elim m [ ]
+  skipping-pads rules hi (at-refusal l h) m = elim m [ ]
+  skipping-pads rules hi {p = p} (at-pad {at} {b} {e} l h d) m =
       ⊎-elim
       (λ q. subst (PadStands rules hi at) (sym q) (record { to = stay; before = l; is = h }))
       (λ y.
-      let w = walk-pads rules hi d y in
+      let w = skipping-pads rules hi d y in
       record { to = on (stands s rules hi at (skip b e) l h) (w .to); before = w .before; is = w .is })
       (List·Memᴰ·cases-cons m)
 
@@ -201,7 +201,7 @@ module _ (s : List ℕ) where
     where
       go : {f : Found} → Finds rules s c f → List·Memᴰ p (f .pads) → PadStands rules (c .end) (c .at) p
       go (unfit h) m = elim m [ ]
-      go (fit l k w) m = walk-pads rules (c .end) w m
+      go (fit l k w) m = skipping-pads rules (c .end) w m
 
   -- ---- parts and bodies, as places below the stream
 
@@ -210,12 +210,12 @@ module _ (s : List ℕ) where
       record { tile = hand i; before = w .before; is = w .is; place = sym (value-place k) }
 
   pub nested : {lo₀ hi₀ lo hi : ℕ} {rules : Rules} → Part (λ r. Answers r s) lo₀ hi₀ rules lo hi → Nest (Standing s) Stream lo₀ hi₀ rules lo hi
-  nested whole = nest.whole
+  nested the-stream = nest.whole
   nested (inner {rules} {lo} {hi} pt run m k o) =
       let w = item-stands rules run m in
       nest.inner (nested pt) (w .to) (item-standing rules (cursor lo hi) k w) o
 
-  pub under : {lo₀ hi₀ b e : ℕ} → Body s (λ r. Answers r s) lo₀ hi₀ b e → (a : ℕ) × Under (Standing s) a b e Stream lo₀ hi₀
+  pub under : {lo₀ hi₀ b e : ℕ} → ReachedBody s (λ r. Answers r s) lo₀ hi₀ b e → (a : ℕ) × Under (Standing s) a b e Stream lo₀ hi₀
   under (of-value {rules} {lo} {hi} h k) =
       let w = item-stands rules (h .run) (h .among) in
       (w .place, nest.lift (Standing s) (nested (h .part)) (nest.here (w .to) (item-standing rules (cursor lo hi) k w) refl refl))

@@ -1,5 +1,5 @@
--- The program's own answers: what the machine returned to calls of the six entries. The theorems on runs, of these: `program-tiling` and `program-apart` of
--- proofs/Program.antt. As a function's statement is, they are for every model of the machine.
+-- The program's own answers: what the machine returned to calls of the six entries. The theorems on runs, of these: `program-tiling` and `program-overwriting`
+-- of proofs/Program.antt. As a function's statement is, they are for every model of the machine.
 -- Assumes nothing.
 use Prim.Native.Nat.{ℕ}
 use mathlib.Core.Path.{_≡_}
@@ -42,7 +42,7 @@ use Rattle.values.proofs.value.Scalar.Laws as scalar-laws
 use Rattle.values.proofs.value.read as reading
 use Rattle.values.proofs.value.read.Symbol as reading-symbol
 use Rattle.runs.specs.Machine as machine
-use Rattle.runs.specs.Reached.{Body, Agree, In, SameAnswers}
+use Rattle.runs.specs.Reached.{ReachedBody, Agree, In, SameAnswers}
 
 module _ {M : Type 1} (𝓤 : URA M) (H : Heap 𝓤) (𝓜 : Model 𝓤 H) (𝓖 : GhostRules 𝓤 H) (κs : Lfts 1) where
   -- the machine, called for the program's step of these rules with the cursor c on the slice s, in some memory in which they are passed, returned x
@@ -79,10 +79,10 @@ module _ {M : Type 1} (𝓤 : URA M) (H : Heap 𝓤) (𝓜 : Model 𝓤 H) (𝓖
 
   -- Demand 3, second half, of the program: whatever the machine returned on two maps that are alike outside one reached body, in however many calls outside it, is
   -- the same.
-  abbrev pub ProgramApart : Type 1
-  ProgramApart =
+  abbrev pub ProgramOverwriting : Type 1
+  ProgramOverwriting =
       (s s' : RefT (List ℕ)) (lo₀ hi₀ b e : ℕ)
-      → Body (now s) (λ rules. Program rules s) lo₀ hi₀ b e
+      → ReachedBody (now s) (λ rules. Program rules s) lo₀ hi₀ b e
       → Agree (now s) (now s') (In b e)
       → SameAnswers
       (λ rules. Program rules s)

@@ -32,7 +32,7 @@ itemStart (field id a v) = a
 -- "Reached are the stream, [what] a run on a reached part hands out, the bodies of the non-null containers among them": the reached parts with their rules.
 -- `step rules c r` says which answers r a step of these rules with the cursor c has.
 pub data Part {ℓ} (step : Rules → Cursor → Stepped → Type ℓ) (lo₀ hi₀ : ℕ) : Rules → ℕ → ℕ → Type ℓ where
-  whole : Part step lo₀ hi₀ Stream lo₀ hi₀
+  the-stream : Part step lo₀ hi₀ Stream lo₀ hi₀
   inner : {rules : Rules} {lo hi : ℕ} {rs : List Stepped} {i : Item} {v : Spans} → Part step lo₀ hi₀ rules lo hi → Run (step rules) (cursor lo hi) rs → List·Memᴰ i (items rs) → ValueOf i v → isContainer v ≡ true → Part step lo₀ hi₀ (bodyRules v) (v .body) (v .end)
 
 -- an item that a run on the reached part lo..hi hands out
@@ -48,9 +48,9 @@ left c [] = c
 left c (r ∷ rs) = left (r .next) rs
 
 -- the reached bodies b..e of the map s: of each value handed out, and of each pad that a call after a run passes, "also where the step then refuses or ends"
-pub data Body {ℓ} (s : List ℕ) (step : Rules → Cursor → Stepped → Type ℓ) (lo₀ hi₀ : ℕ) : ℕ → ℕ → Type ℓ where
-  of-value : {rules : Rules} {lo hi : ℕ} {i : Item} {v : Spans} → Handed step lo₀ hi₀ rules lo hi i → ValueOf i v → Body s step lo₀ hi₀ (v .body) (v .end)
-  of-pad : {rules : Rules} {lo hi : ℕ} {rs : List Stepped} {p : Pad} → Part step lo₀ hi₀ rules lo hi → Run (step rules) (cursor lo hi) rs → List·Memᴰ p (found rules s (left (cursor lo hi) rs) .pads) → Body s step lo₀ hi₀ (p .body) (p .end)
+pub data ReachedBody {ℓ} (s : List ℕ) (step : Rules → Cursor → Stepped → Type ℓ) (lo₀ hi₀ : ℕ) : ℕ → ℕ → Type ℓ where
+  of-value : {rules : Rules} {lo hi : ℕ} {i : Item} {v : Spans} → Handed step lo₀ hi₀ rules lo hi i → ValueOf i v → ReachedBody s step lo₀ hi₀ (v .body) (v .end)
+  of-pad : {rules : Rules} {lo hi : ℕ} {rs : List Stepped} {p : Pad} → Part step lo₀ hi₀ rules lo hi → Run (step rules) (cursor lo hi) rs → List·Memᴰ p (found rules s (left (cursor lo hi) rs) .pads) → ReachedBody s step lo₀ hi₀ (p .body) (p .end)
 
 -- the position i is in b..e
 abbrev pub In : ℕ → ℕ → ℕ → Type 0
@@ -75,14 +75,14 @@ EntryAt v at = (at ≡ v .start) ⊎ (at ≡ v .descriptor)
 
 -- "Annotation steps run likewise from the start of a reached value's annotation bytes": the position that a step leaves is past its ID, and the one it was
 -- given after the end and after a refusal
-abbrev pub past : ℕ → Outcome Annotated → ℕ
-past at (gives (ident id next)) = next
-past at (gives finished) = at
-past at (refuses number position) = at
+abbrev pub nextAnnotation : ℕ → Outcome Annotated → ℕ
+nextAnnotation at (gives (ident id next)) = next
+nextAnnotation at (gives finished) = at
+nextAnnotation at (refuses number position) = at
 
 pub data AnnotationRun {ℓ} (step : ℕ → Outcome Annotated → Type ℓ) : ℕ → List (Outcome Annotated) → Type ℓ where
   none : {at : ℕ} → AnnotationRun step at []
-  call : {at : ℕ} {r : Outcome Annotated} {rs : List (Outcome Annotated)} → step at r → AnnotationRun step (past at r) rs → AnnotationRun step at (r ∷ rs)
+  call : {at : ℕ} {r : Outcome Annotated} {rs : List (Outcome Annotated)} → step at r → AnnotationRun step (nextAnnotation at r) rs → AnnotationRun step at (r ∷ rs)
 
 -- the answers that the rules define, beside those of a step: of an annotation step at a position of the bytes that end at `end`; of stepping in, the
 -- scalar reading and its part, in the part lo..hi at a position

@@ -9,9 +9,9 @@ use Rattle.numbers.specs.Outcome.{gives, refuses, outsideOf}
 use Rattle.numbers.specs.Answers.{lastAmong, lastByte, varNumber, varUInt}
 use Rattle.numbers.specs.Descriptor.{kindOf, descriptorOf}
 use Rattle.framing.specs.Spans.{Spans}
-use Rattle.framing.specs.Answers.{begun, lengthAt, valueCode, badFloat, shortTimestamp, emptyOrdered, lengthTests, valueLength, fitting, plainValue, padded, padAt, valueAt, frameAt, readFrame}
+use Rattle.framing.specs.Answers.{peekedDescriptor, lengthAt, valueCode, badFloat, shortTimestamp, emptyOrdered, lengthTests, valueLength, fitting, valueWithoutAnnotations, padded, padAt, valueAt, frameAt, readFrame}
 use Rattle.stepping.specs.Items.{finish, marker, value, field, Pad}
-use Rattle.stepping.specs.Answers.{markerAt, framedAt, namedAt, fieldAt, tileAt, walk, found, Stepped, stepOf}
+use Rattle.stepping.specs.Answers.{markerAt, framedAt, namedAt, fieldAt, tileAt, skipPads, found, Stepped, stepOf}
 use Rattle.stepping.specs.Runs.{cursor, Answers, Run, none, call, Tiles}
 use Rattle.stepping.specs.declared.cursor.Cursor.{Cursor}
 use Rattle.stepping.specs.declared.cursor.Rules.{Rules}
@@ -43,13 +43,13 @@ pub marked-run :
     ∷ record { answer = gives (finish 7); next = cursor 7 7 }
     ∷ record { answer = gives (finish 7); next = cursor 7 7 }
     ∷ []
-unfolding calls stepOf found walk tileAt markerAt framedAt readFrame begun frameAt padAt padded valueAt plainValue valueLength lengthAt lengthTests valueCode badFloat shortTimestamp emptyOrdered fitting descriptorOf kindOf outsideOf
+unfolding calls stepOf found skipPads tileAt markerAt framedAt readFrame peekedDescriptor frameAt padAt padded valueAt valueWithoutAnnotations valueLength lengthAt lengthTests valueCode badFloat shortTimestamp emptyOrdered fitting descriptorOf kindOf outsideOf
 marked-run = refl
 
 -- what these calls hand out tiles the part, with the pad before the marker
 pub marked-tiled :
     Tiles Stream marked 7 0 (marker 1 1 0 5 ∷ value (record { byte = 177; start = 5; annotations = 5; descriptor = 5; body = 6; end = 7 }) ∷ []) 7
-unfolding calls stepOf found walk tileAt markerAt framedAt readFrame begun frameAt padAt padded valueAt plainValue valueLength lengthAt lengthTests valueCode badFloat shortTimestamp emptyOrdered fitting descriptorOf kindOf outsideOf
+unfolding calls stepOf found skipPads tileAt markerAt framedAt readFrame peekedDescriptor frameAt padAt padded valueAt valueWithoutAnnotations valueLength lengthAt lengthTests valueCode badFloat shortTimestamp emptyOrdered fitting descriptorOf kindOf outsideOf
 marked-tiled = tiling Stream marked 0 7 (calls 4 Stream marked (cursor 0 7)) (calls-run 4 Stream marked (cursor 0 7)) .upToLast
 
 -- a struct, D5 84 00 85 21 07, and its body: the pad at 1..3 with its field ID, field 5 at 3..6, the end
@@ -62,11 +62,11 @@ pub struct-run :
     ∷ record { answer = gives (finish 6); next = cursor 6 6 }
     ∷ record { answer = gives (finish 6); next = cursor 6 6 }
     ∷ []
-unfolding calls stepOf found walk tileAt fieldAt namedAt varUInt varNumber lastByte lastAmong varUIntOf ofDigits readFrame begun frameAt padAt padded valueAt plainValue valueLength lengthAt lengthTests valueCode badFloat shortTimestamp emptyOrdered fitting descriptorOf kindOf outsideOf
+unfolding calls stepOf found skipPads tileAt fieldAt namedAt varUInt varNumber lastByte lastAmong varUIntOf ofDigits readFrame peekedDescriptor frameAt padAt padded valueAt valueWithoutAnnotations valueLength lengthAt lengthTests valueCode badFloat shortTimestamp emptyOrdered fitting descriptorOf kindOf outsideOf
 struct-run = refl
 
 pub struct-pads : found Fields padded-struct (cursor 1 6) .pads ≡ record { start = 1; body = 3; end = 3 } ∷ []
-unfolding found walk tileAt fieldAt namedAt varUInt varNumber lastByte lastAmong varUIntOf ofDigits readFrame begun frameAt padAt padded valueAt plainValue valueLength lengthAt lengthTests valueCode badFloat shortTimestamp emptyOrdered fitting descriptorOf kindOf outsideOf
+unfolding found skipPads tileAt fieldAt namedAt varUInt varNumber lastByte lastAmong varUIntOf ofDigits readFrame peekedDescriptor frameAt padAt padded valueAt valueWithoutAnnotations valueLength lengthAt lengthTests valueCode badFloat shortTimestamp emptyOrdered fitting descriptorOf kindOf outsideOf
 struct-pads = refl
 
 -- a list, B2 00 E0, and its body: the pad is not passed where E0 after it is refused, and the refusal repeats
@@ -79,5 +79,5 @@ pub refused-run :
     ∷ record { answer = refuses 22 2; next = cursor 1 3 }
     ∷ record { answer = refuses 22 2; next = cursor 1 3 }
     ∷ []
-unfolding calls stepOf found walk tileAt framedAt readFrame begun frameAt padAt padded valueAt plainValue lengthAt descriptorOf kindOf outsideOf
+unfolding calls stepOf found skipPads tileAt framedAt readFrame peekedDescriptor frameAt padAt padded valueAt valueWithoutAnnotations lengthAt descriptorOf kindOf outsideOf
 refused-run = refl

@@ -1,5 +1,5 @@
 pub mod Places
-pub mod Walking
+pub mod PadSkipping
 pub mod Spans
 pub mod Tiling
 pub mod Passed

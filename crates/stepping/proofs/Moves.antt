@@ -10,11 +10,11 @@ use Rattle.numbers.specs.Outcome.{Outcome, gives, refuses}
 use Rattle.numbers.proofs.Outcomes.{Proper, other, inside}
 use Rattle.framing.specs.Spans.{Spans}
 use Rattle.stepping.specs.Items.{Item, finish}
-use Rattle.stepping.specs.Answers.{walk, Found, found, stepOf}
+use Rattle.stepping.specs.Answers.{skipPads, Found, found, stepOf}
 use Rattle.stepping.specs.Runs.{cursor}
 use Rattle.stepping.specs.declared.cursor.Rules.{Rules}
 use Rattle.stepping.proofs.Places.{ValueIn, ItemIn, a-marker, a-value, a-field, pad-ends, item-in, tile-proper}
-use Rattle.stepping.proofs.Walking.{Walks, at-end, at-pad, at-item, at-refusal, walks, of-walks}
+use Rattle.stepping.proofs.PadSkipping.{Skipping, at-end, at-pad, at-item, at-refusal, skipping, of-skipping}
 
 pub data Moves (at hi : ℕ) : Outcome Item → Type 0 where
   ends : Moves at hi (gives (finish hi))
@@ -36,21 +36,21 @@ not-outside : {A : Type 0} {n p : ℕ} → Proper {A = A} (refuses n p) → n �
 not-outside (other d) = d
 
 module _ (rules : Rules) (s : List ℕ) (hi : ℕ) (k : hi ≤ length s) where
-  walk-moves : {at : ℕ} {f : Found} → Walks rules s hi at f → Moves at hi (f .answer)
-  walk-moves at-end = ends
-  walk-moves (at-pad l h w) = let p = pad-ends rules s h in earlier (omega arith) (walk-moves w)
-  walk-moves (at-item l h) = hands (item-in rules s h)
-  walk-moves (at-refusal {at} l h) = stops (not-outside (subst Proper h (tile-proper rules s at hi (omega arith) k)))
+  skipping-moves : {at : ℕ} {f : Found} → Skipping rules s hi at f → Moves at hi (f .answer)
+  skipping-moves at-end = ends
+  skipping-moves (at-pad l h w) = let p = pad-ends rules s h in earlier (omega arith) (skipping-moves w)
+  skipping-moves (at-item l h) = hands (item-in rules s h)
+  skipping-moves (at-refusal {at} l h) = stops (not-outside (subst Proper h (tile-proper rules s at hi (omega arith) k)))
 
   pub moves : (at : ℕ) → at ≤ hi → Moves at hi (stepOf rules s (cursor at hi) .answer)
   unfolding stepOf
   moves at l =
-      let w = walks rules s hi (hi - at) at l (omega arith) in
-      subst (λ (f : Found). Moves at hi (f .answer)) (of-walks rules s hi l k w) (walk-moves w)
+      let w = skipping rules s hi (hi - at) at l (omega arith) in
+      subst (λ (f : Found). Moves at hi (f .answer)) (of-skipping rules s hi l k w) (skipping-moves w)
 
   -- at the part's end it is the end
   pub moves-end : stepOf rules s (cursor hi hi) .answer ≡ gives (finish hi)
-  unfolding stepOf found walk
+  unfolding stepOf found skipPads
   moves-end =
       let z : hi - hi ≡ 0 = omega arith in
       rw (inside s hi hi (omega arith) k, z)

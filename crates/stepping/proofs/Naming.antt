@@ -16,12 +16,12 @@ use Rattle.framing.specs.Spans.{Spans}
 use Rattle.framing.specs.Answers.{Frame, padding, valued, readFrame}
 use Rattle.framing.proofs.Bounds.{FrameIn, pad-in, value-in, frame-each}
 use Rattle.stepping.specs.Items.{Item, finish, value}
-use Rattle.stepping.specs.Answers.{Tile, skip, hand, markerAt, asTile, framedAt, asField, namedAt, fieldAt, tileAt, Found, stop, onTile, walk, found, stepOf, answerAt}
+use Rattle.stepping.specs.Answers.{Tile, skip, hand, markerAt, asTile, framedAt, asField, namedAt, fieldAt, tileAt, Found, stop, onTile, skipPads, found, stepOf, answerAt}
 use Rattle.stepping.specs.Names.{followed, fieldId, nameAt, nameFrom, itemBy, tileBy, tileBehind, isMarker, tileFrom, foundFrom, answerFrom}
 use Rattle.stepping.specs.Private.Tiles.{handed}
 use Rattle.stepping.specs.declared.cursor.Rules.{Rules}
 use Rattle.stepping.specs.declared.cursor.Rules.the-variants.{Stream, Sequence, Fields}
-use Rattle.stepping.proofs.Walking.{walks, of-walks}
+use Rattle.stepping.proofs.PadSkipping.{skipping, of-skipping}
 
 -- ---- a tile
 
@@ -126,27 +126,27 @@ pad-onward rules s at end u q = skips-on (each-of (tile-onward rules s at end u)
 -- ---- a step that is entered behind a name
 
 -- with more fuel than a part's length a step passes the pads as it does
-walk-found : (rules : Rules) (s : List ℕ) (k at end : ℕ) → at ≤ end → end ≤ length s → end - at ≤ k → walk k rules s end at ≡ found rules s (record { at = at; end = end })
-walk-found rules s k at end l m f = of-walks rules s end l m (walks rules s end k at l f)
+skip-pads-found : (rules : Rules) (s : List ℕ) (k at end : ℕ) → at ≤ end → end ≤ length s → end - at ≤ k → skipPads k rules s end at ≡ found rules s (record { at = at; end = end })
+skip-pads-found rules s k at end l m f = of-skipping rules s end l m (skipping rules s end k at l f)
 
 module _ (rules : Rules) (s : List ℕ) (at end : ℕ) (u : Unsigned) where
   from-outside : outsideOf s at end ≡ true → foundFrom rules s at end u ≡ found rules s (record { at = at; end = end })
   unfolding foundFrom found
   from-outside o = rw o
 
-  from-tile : outsideOf s at end ≡ false → at < end → nameFrom rules s at end u ≡ nameAt rules s at end → foundFrom rules s at end u ≡ walk (suc (end - at)) rules s end at
-  unfolding foundFrom walk
+  from-tile : outsideOf s at end ≡ false → at < end → nameFrom rules s at end u ≡ nameAt rules s at end → foundFrom rules s at end u ≡ skipPads (suc (end - at)) rules s end at
+  unfolding foundFrom skipPads
   from-tile o l e = rw (o, lt-ltb at end l, tile-from s at end rules u e)
 
-  from-end : outsideOf s at end ≡ false → end ≤ at → foundFrom rules s at end u ≡ walk (suc (end - at)) rules s end at
-  unfolding foundFrom walk
+  from-end : outsideOf s at end ≡ false → end ≤ at → foundFrom rules s at end u ≡ skipPads (suc (end - at)) rules s end at
+  unfolding foundFrom skipPads
   from-end o h = rw (o, le-ltb at end h)
 
   -- it is the step, where the name that was read is the name
   pub found-from : (at < end → nameFrom rules s at end u ≡ nameAt rules s at end) → foundFrom rules s at end u ≡ found rules s (record { at = at; end = end })
-  found-from name = by-case (outsideOf s at end) from-outside (λ o. within o ∙ walk-found rules s (suc (end - at)) at end (inside-order s at end o) (inside-end s at end o) (omega arith))
+  found-from name = by-case (outsideOf s at end) from-outside (λ o. within o ∙ skip-pads-found rules s (suc (end - at)) at end (inside-order s at end o) (inside-end s at end o) (omega arith))
     where
-      within : outsideOf s at end ≡ false → foundFrom rules s at end u ≡ walk (suc (end - at)) rules s end at
+      within : outsideOf s at end ≡ false → foundFrom rules s at end u ≡ skipPads (suc (end - at)) rules s end at
       within o =
           by-case (ltb at end) (λ t. from-tile o (ltb-true at end t) (name (ltb-true at end t))) (λ t. from-end o (ltb-false at end t))
 
@@ -161,18 +161,18 @@ answer-unread rules s at end id =
 
 -- what it answers where a tile stands that is no pad, behind a pad, outside the slice, and at the part's end
 module _ (rules : Rules) (s : List ℕ) (at end : ℕ) (u : Unsigned) (l : at < end) (m : end ≤ length s) where
-  entered : foundFrom rules s at end u ≡ onTile at (walk (end - at) rules s end) (tileFrom rules s at end u)
+  entered : foundFrom rules s at end u ≡ onTile at (skipPads (end - at) rules s end) (tileFrom rules s at end u)
   unfolding foundFrom
   entered = rw (inside s at end (omega arith) m, lt-ltb at end l)
 
-  on-item : (o : Outcome Item) → onTile at (walk (end - at) rules s end) (andThen o handed) .answer ≡ o
+  on-item : (o : Outcome Item) → onTile at (skipPads (end - at) rules s end) (andThen o handed) .answer ≡ o
   on-item (gives i) = refl
   on-item (refuses n p) = refl
 
   pub from-item : (o : Outcome Item) → andThen o handed ≡ tileFrom rules s at end u → o ≡ answerFrom rules s at end u
   from-item o h =
       sym (on-item o)
-      ∙ ap (λ (t : Outcome Tile). onTile at (walk (end - at) rules s end) t .answer) h
+      ∙ ap (λ (t : Outcome Tile). onTile at (skipPads (end - at) rules s end) t .answer) h
       ∙ sym (ap (λ (f : Found). f .answer) entered)
 
   pub from-pad : (id b e : ℕ) → tileFrom rules s at end u ≡ gives (skip b e) → answerFrom rules s e end (record { value = id; next = e }) ≡ answerFrom rules s at end u
@@ -180,8 +180,8 @@ module _ (rules : Rules) (s : List ℕ) (at end : ℕ) (u : Unsigned) (l : at < 
   from-pad id b e h =
       let p = pad-onward rules s at end u h in
       answer-unread rules s e end id
-      ∙ sym (ap (λ (f : Found). f .answer) (walk-found rules s (end - at) e end (p .1) m (omega (arith, p .0))))
-      ∙ sym (ap (λ (t : Outcome Tile). onTile at (walk (end - at) rules s end) t .answer) h)
+      ∙ sym (ap (λ (f : Found). f .answer) (skip-pads-found rules s (end - at) e end (p .1) m (omega (arith, p .0))))
+      ∙ sym (ap (λ (t : Outcome Tile). onTile at (skipPads (end - at) rules s end) t .answer) h)
       ∙ sym (ap (λ (f : Found). f .answer) entered)
 
 outside-stop : (rules : Rules) (s : List ℕ) (at end : ℕ) (u : Unsigned) → outsideOf s at end ≡ true → foundFrom rules s at end u ≡ stop (refuses 50 0)

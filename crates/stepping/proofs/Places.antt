@@ -66,11 +66,11 @@ tile-each Fields s at end =
 pub tile-in : (rules : Rules) (s : List ℕ) (at end : ℕ) {t : Tile} → tileAt rules s at end ≡ gives t → TileIn at end t
 tile-in rules s at end q = each-of (tile-each rules s at end) q
 
-skip-told : {at end b e : ℕ} → TileIn at end (skip b e) → (at < b) × (b ≤ e) × (e ≤ end)
-skip-told (skip-in p q r) = (p, q, r)
+skip-bounds : {at end b e : ℕ} → TileIn at end (skip b e) → (at < b) × (b ≤ e) × (e ≤ end)
+skip-bounds (skip-in p q r) = (p, q, r)
 
-hand-told : {at end : ℕ} {i : Item} → TileIn at end (hand i) → ItemIn at end i
-hand-told (hand-in i) = i
+hand-item : {at end : ℕ} {i : Item} → TileIn at end (hand i) → ItemIn at end i
+hand-item (hand-in i) = i
 
 value-ends : {at end : ℕ} {v : Spans} → ValueIn at end v → (at < v .end) × (v .end ≤ end)
 value-ends v = (omega (arith, v .low, v .bodied, v .ended), v .within)
@@ -81,10 +81,10 @@ in-ends (a-value v) = value-ends v
 in-ends (a-field v) = value-ends v
 
 pub pad-ends : (rules : Rules) (s : List ℕ) {at end b e : ℕ} → tileAt rules s at end ≡ gives (skip b e) → (at < b) × (b ≤ e) × (e ≤ end)
-pad-ends rules s {at} {end} q = skip-told (tile-in rules s at end q)
+pad-ends rules s {at} {end} q = skip-bounds (tile-in rules s at end q)
 
 pub item-in : (rules : Rules) (s : List ℕ) {at end : ℕ} {i : Item} → tileAt rules s at end ≡ gives (hand i) → ItemIn at end i
-item-in rules s {at} {end} q = hand-told (tile-in rules s at end q)
+item-in rules s {at} {end} q = hand-item (tile-in rules s at end q)
 
 -- in a part of the slice nothing is refused with 50
 frame-as-tile : (f : Frame) (id at : ℕ) → Proper (asTile f) × Proper (asField id at f)

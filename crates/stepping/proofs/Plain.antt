@@ -22,7 +22,7 @@ use Rattle.stepping.specs.Names.{followed, fieldId, nameAt, itemBy, tile
 use Rattle.stepping.specs.declared.cursor.Rules.{Rules}
 use Rattle.stepping.specs.declared.cursor.Rules.the-variants.{Stream, Sequence, Fields}
 use Rattle.stepping.proofs.Naming.{name-read, tile-named, answer-from}
-use Rattle.stepping.proofs.Walking.{answered, answer-is}
+use Rattle.stepping.proofs.PadSkipping.{answered, answer-is}
 
 -- where a name ends: not before it begins, and before the part does
 pub record NameIn (at end : ℕ) (u : Unsigned) : Type 0 where

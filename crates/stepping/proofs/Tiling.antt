@@ -14,7 +14,7 @@ use Rattle.stepping.specs.Runs.{cursor, Answers, Run, none, call, handed
 use Rattle.stepping.specs.Theorems.{Tiling, RunsExist}
 use Rattle.stepping.specs.declared.cursor.Cursor.{Cursor}
 use Rattle.stepping.specs.declared.cursor.Rules.{Rules}
-use Rattle.stepping.proofs.Walking.{Walks, at-end, at-pad, at-item, at-refusal, Finds, unfit, fit, finds}
+use Rattle.stepping.proofs.PadSkipping.{Skipping, at-end, at-pad, at-item, at-refusal, Finds, unfit, fit, finds}
 use Rattle.stepping.proofs.Places.{pad-ends, in-ends, item-in}
 use Rattle.stepping.proofs.Spans.{pad-at, item-at}
 
@@ -45,7 +45,7 @@ module _ (rules : Rules) (s : List ℕ) (hi : ℕ) where
   past-pad h t (hands n l m w) = hands n (omega arith) m (λ is z x. pad t (w is z x))
   past-pad h t refuses-there = refuses-there
 
-  adds : {at : ℕ} {f : Found} → hi ≤ length s → Walks rules s hi at f → Adds rules s hi at (f .answer)
+  adds : {at : ℕ} {f : Found} → hi ≤ length s → Skipping rules s hi at f → Adds rules s hi at (f .answer)
   adds k at-end = ends empty
   adds k (at-pad l h d) = let p = pad-ends rules s h in past-pad (omega arith) (pad-at rules s l k h) (adds k d)
   adds k (at-item l h) =

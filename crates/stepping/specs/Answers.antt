@@ -73,14 +73,14 @@ onTile at go (gives (hand i)) = stop (gives i)
 onTile at go (refuses number position) = stop (refuses number position)
 
 -- "Skip pads; then marker, value or end", from `at` on, over at most k tiles: the part's length is enough. "The end's position is the end of the part stepped."
-unfoldable pub walk : ℕ → Rules → List ℕ → ℕ → ℕ → Found
-walk zero rules s end at = stop (gives (finish end))
-walk (suc k) rules s end at =
-    pick (ltb at end) (onTile at (walk k rules s end) (tileAt rules s at end)) (stop (gives (finish end)))
+unfoldable pub skipPads : ℕ → Rules → List ℕ → ℕ → ℕ → Found
+skipPads zero rules s end at = stop (gives (finish end))
+skipPads (suc k) rules s end at =
+    pick (ltb at end) (onTile at (skipPads k rules s end) (tileAt rules s at end)) (stop (gives (finish end)))
 
 unfoldable pub found : Rules → List ℕ → Cursor → Found
 found rules s c =
-    pick (outsideOf s (c .at) (c .end)) (stop (refuses 50 0)) (walk (c .end - c .at) rules s (c .end) (c .at))
+    pick (outsideOf s (c .at) (c .end)) (stop (refuses 50 0)) (skipPads (c .end - c .at) rules s (c .end) (c .at))
 
 -- "The cursor that the call before returned, which after a refusal is the one it was given": past the item, and at the part's end after the end
 abbrev pub after : Cursor → Outcome Item → Cursor

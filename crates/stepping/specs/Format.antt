@@ -13,15 +13,15 @@ use Rattle.stepping.specs.declared.cursor.Rules.{Rules}
 use Rattle.stepping.specs.declared.cursor.Rules.the-variants.{Stream, Sequence, Fields}
 
 -- In a struct a field ID stands at a..n, before the pad or the value; elsewhere nothing does.
-pub data Named (s : List ℕ) (hi : ℕ) : Rules → ℕ → ℕ → Type 0 where
-  in-stream : {a : ℕ} → Named s hi Stream a a
-  in-sequence : {a : ℕ} → Named s hi Sequence a a
-  in-fields : {a n : ℕ} → NumberAt s a hi n → Named s hi Fields a n
+pub data NameBytes (s : List ℕ) (hi : ℕ) : Rules → ℕ → ℕ → Type 0 where
+  in-stream : {a : ℕ} → NameBytes s hi Stream a a
+  in-sequence : {a : ℕ} → NameBytes s hi Sequence a a
+  in-fields : {a n : ℕ} → NumberAt s a hi n → NameBytes s hi Fields a n
 
 -- "a pad its field ID in a struct, descriptor, length and body"
 pub record PadAt (rules : Rules) (s : List ℕ) (hi : ℕ) (p : Pad) : Type 0 where
   pub after : ℕ
-  pub name : Named s hi rules (p .start) after
+  pub name : NameBytes s hi rules (p .start) after
   pub bytes : NopPadding s after hi (record { body = p .body; end = p .end })
 
 -- "a marker its four bytes; a value its field ID in a struct, its wrapper if any, and itself": the item that starts at a

@@ -11,7 +11,7 @@ abbrev pub rulesOf : ℕ → Rules
 rulesOf kind = pick (eqb kind 0) Stream (pick (eqb kind 1) Sequence Fields)
 
 -- the kind of a part with these rules
-abbrev pub kindOf : Rules → ℕ
-kindOf Stream = 0
-kindOf Sequence = 1
-kindOf Fields = 2
+abbrev pub partKind : Rules → ℕ
+partKind Stream = 0
+partKind Sequence = 1
+partKind Fields = 2

@@ -11,7 +11,7 @@ use Rattle.numbers.specs.Answers.{Unsigned, varUInt}
 use Rattle.framing.specs.Spans.{Spans}
 use Rattle.framing.specs.Answers.{Frame, padding, valued, readFrame}
 use Rattle.stepping.specs.Items.{Item, finish, value, field}
-use Rattle.stepping.specs.Answers.{Tile, skip, hand, markerAt, Found, stop, onTile, walk}
+use Rattle.stepping.specs.Answers.{Tile, skip, hand, markerAt, Found, stop, onTile, skipPads}
 use Rattle.stepping.specs.declared.cursor.Rules.{Rules}
 use Rattle.stepping.specs.declared.cursor.Rules.the-variants.{Stream, Sequence, Fields}
 
@@ -61,7 +61,7 @@ tileFrom rules s at end u =
 unfoldable pub foundFrom : Rules → List ℕ → ℕ → ℕ → Unsigned → Found
 foundFrom rules s at end u =
     pick (outsideOf s at end) (stop (refuses 50 0))
-    (pick (ltb at end) (onTile at (walk (end - at) rules s end) (tileFrom rules s at end u)) (stop (gives (finish end))))
+    (pick (ltb at end) (onTile at (skipPads (end - at) rules s end) (tileFrom rules s at end u)) (stop (gives (finish end))))
 
 abbrev pub answerFrom : Rules → List ℕ → ℕ → ℕ → Unsigned → Outcome Item
 answerFrom rules s at end u = foundFrom rules s at end u .answer

@@ -5,7 +5,7 @@ ghost use lib.ListN.{length};
 ghost use Rattle.numbers.specs.Outcome.{gives, refuses, andThen};
 ghost use Rattle.framing.specs.Read.{spansOf, frameRead};
 ghost use Rattle.stepping.specs.Answers.{versionPasses, markerAt, after, stepOf};
-ghost use Rattle.stepping.specs.Kinds.{rulesOf, kindOf};
+ghost use Rattle.stepping.specs.Kinds.{rulesOf, partKind};
 ghost use Rattle.stepping.specs.Leaving.{leftOf, isLast};
 ghost use Rattle.stepping.specs.Names.{fieldId, nameAt, nameFrom, itemBy, tileBy, isMarker, tileFrom, answerFrom};
 ghost use Rattle.stepping.specs.Read.{itemRead, namedRead, stepRead};
@@ -13,8 +13,8 @@ ghost use Rattle.stepping.specs.Private.Tiles.{tileRead};
 use framing::binary_buffer::read_frame;
 use framing::encoded_value::EncodedValue;
 use framing::encoded_value::Frame;
-use numbers::binary_buffer::next_var_uint;
 use numbers::binary_buffer::outside;
+use numbers::binary_buffer::read_var_uint;
 use numbers::refusal::BAD_MARKER;
 use numbers::refusal::FIELD_CUT;
 use numbers::refusal::MARKER_CUT;
@@ -46,8 +46,8 @@ pub fn rules_of(kind: u64) -> Rules
 }
 
 // The kind of a part with these rules.
-pub fn kind_of(rules: Rules) -> u64
-    ensures { λ r. ⌜ r ≡ kindOf rules ⌝ }
+pub fn part_kind(rules: Rules) -> u64
+    ensures { λ r. ⌜ r ≡ partKind rules ⌝ }
 {
     match rules {
         Rules::Stream => 0,
@@ -183,7 +183,7 @@ fn read_ivm(s: &[u8], at: usize, end: usize) -> Tile
 fn read_field_id(s: &[u8], at: usize, end: usize) -> Named
     ensures { λ r. ⌜ namedRead r ≡ fieldId (now (s .entry)) at end ⌝ }
 {
-    match next_var_uint(s, at, end) {
+    match read_var_uint(s, at, end) {
         VarUInt::Value { value, next } => {
             if next == end {
                 return Named::Refused(Refusal {

@@ -10,8 +10,8 @@ use lib.Dec.{ltb, eqb}
 use Rattle.numbers.specs.Outcome.{Outcome, gives, refuses, pick}
 use Rattle.numbers.proofs.Outcomes.{Each, given, each-refuse, each-pick, each-then, each-map, refused}
 use Rattle.framing.specs.Spans.{Spans}
-use Rattle.framing.specs.Answers.{begun, valueAt, readValue}
-use Rattle.framing.proofs.Bounds.{BegunAt, begun-each, Ordered, read-value-each, value-each}
+use Rattle.framing.specs.Answers.{peekedDescriptor, valueAt, readValue}
+use Rattle.framing.proofs.Bounds.{PeekedAt, peeked-each, Ordered, read-value-each, value-each}
 use Rattle.bodies.specs.Utf8.{utf8}
 use Rattle.bodies.specs.Magnitude.{significantFrom}
 use Rattle.bodies.proofs.Leading.{Begins, significant-begins}
@@ -25,7 +25,7 @@ pub record InSlice (s : List ℕ) (v : Spans) : Type 0 where
 pub value-in-slice : (s : List ℕ) (at end : ℕ) → Each (InSlice s) (readValue s at end)
 unfolding readValue
 value-in-slice s at end =
-    each-then (begun-each s at end) (λ d b.
+    each-then (peeked-each s at end) (λ d b.
     each-map (value-each s at end d (b .before)) (λ v o.
     record { order = o .ended; within = omega (arith, o .within, b .inside) }))
 

@@ -12,15 +12,15 @@ use Rattle.numbers.specs.Outcome.{Outcome, gives, refuses, andThen, outsideOf}
 use Rattle.numbers.specs.Descriptor.{descriptorOf}
 use Rattle.numbers.specs.declared.type_descriptor.TypeDescriptor.{TypeDescriptor}
 use Rattle.numbers.proofs.Outcomes.{inside, then-same, then-then, then-like}
-use Rattle.framing.specs.Answers.{begun, isPad, Frame, valueAt, plainValue, asValued, frameAt, readValue, readFrame}
+use Rattle.framing.specs.Answers.{peekedDescriptor, isPad, Frame, valueAt, valueWithoutAnnotations, asValued, frameAt, readValue, readFrame}
 use Rattle.framing.specs.Spans.{Spans}
-use Rattle.framing.proofs.Bounds.{BegunAt, begun-each}
+use Rattle.framing.proofs.Bounds.{PeekedAt, peeked-each}
 use Rattle.framing.proofs.Nibbles.{PadByte, pad-byte, no-pad-byte}
 use Rattle.stepping.specs.Items.{Item, value}
 use Rattle.stepping.specs.Answers.{Tile, hand, asTile, framedAt, tileAt, Found, stop, stepOf}
 use Rattle.stepping.specs.Private.Tiles.{handed}
 use Rattle.stepping.specs.declared.cursor.Rules.the-variants.{Sequence}
-use Rattle.stepping.proofs.Walking.{answered, answer-is}
+use Rattle.stepping.proofs.PadSkipping.{answered, answer-is}
 use Rattle.values.specs.Private.Values.{valueFrom}
 
 abbrev asItem : Spans → Outcome Item
@@ -36,15 +36,15 @@ from-item at (refuses n p) = refl
 module _ (s : List ℕ) (at end : ℕ) where
   -- the readings of a value, outside the slice, at the part's end and at a pad
   pub value-outside : outsideOf s at end ≡ true → readValue s at end ≡ refuses 50 0
-  unfolding readValue begun
+  unfolding readValue peekedDescriptor
   value-outside e = rw e
 
   pub value-at-end : outsideOf s at end ≡ false → at ≡ end → readValue s at end ≡ refuses 1 end
-  unfolding readValue begun
+  unfolding readValue peekedDescriptor
   value-at-end e q = rw (e, eq-eqb at end q)
 
   pub value-at-pad : outsideOf s at end ≡ false → (at ≡ end → ⊥) → getD s at 0 < 15 → readValue s at end ≡ refuses 22 at
-  unfolding readValue begun valueAt plainValue descriptorOf
+  unfolding readValue peekedDescriptor valueAt valueWithoutAnnotations descriptorOf
   value-at-pad e n h = let p = pad-byte (getD s at 0) h in rw (e, ne-eqb at end n, p .wrapper, p .value)
 
   -- by its descriptor, where that is no pad's
@@ -55,11 +55,11 @@ module _ (s : List ℕ) (at end : ℕ) where
   handed-value : 15 ≤ getD s at 0 → andThen (andThen (readValue s at end) asItem) handed ≡ tileAt Sequence s at end
   unfolding tileAt framedAt readValue readFrame descriptorOf
   handed-value h =
-      then-then (andThen (begun s at end) (valueAt s at end)) asItem handed
-      ∙ then-then (begun s at end) (valueAt s at end) asHanded
-      ∙ then-same (begun-each s at end) refl (λ d b.
+      then-then (andThen (peekedDescriptor s at end) (valueAt s at end)) asItem handed
+      ∙ then-then (peekedDescriptor s at end) (valueAt s at end) asHanded
+      ∙ then-same (peeked-each s at end) refl (λ d b.
       framed-value d (ap (λ (x : TypeDescriptor). isPad (x .kind)) (b .is) ∙ no-pad-byte (getD s at 0) h))
-      ∙ sym (then-then (begun s at end) (frameAt s at end) asTile)
+      ∙ sym (then-then (peekedDescriptor s at end) (frameAt s at end) asTile)
 
   pub value-stepped : at < end → end ≤ length s → 15 ≤ getD s at 0 → valueFrom at (stepOf Sequence s (record { at = at; end = end }) .answer) ≡ readValue s at end
   value-stepped l m h =

@@ -25,7 +25,7 @@ fn sign(negative: bool) -> Line {
 
 // `varuint BYTES AT END`: the value, and where the number ends.
 fn var_uint(s: &[u8], at: usize, end: usize) -> Line {
-    match binary_buffer::read_var_uint(s, at, end) {
+    match binary_buffer::read_var_uint_slow(s, at, end) {
         VarUInt::Value { value, next } => Line::new().position(value).position(next),
         VarUInt::Refused(refusal) => refused(refusal),
     }

@@ -14,8 +14,8 @@ use Rattle.stepping.specs.declared.cursor.Rules.the-variants.{Stream}
 use Rattle.stepping.proofs.Places.{ValueIn, a-marker, a-value, a-field}
 use Rattle.stepping.proofs.Moves.{Moves, ends, hands, stops, moves}
 use Rattle.values.specs.Scalars.{isContainer, bodyRules}
-use Rattle.walking.specs.Walk.{deepest, Visit, visit, Inside, behind, following, walkOf, whole}
-use Rattle.walking.specs.Theorems.{Short}
+use Rattle.walking.specs.Walk.{deepest, Visit, visit, Inside, behind, following, walkOf, wholeWalk}
+use Rattle.walking.specs.Theorems.{LengthBound}
 
 -- one answer at least, and at most n more than `rest` has
 abbrev Few : ℕ → List Visit → List Visit → Type 0
@@ -57,8 +57,8 @@ few s (suc k) rules d hi at rest l m r =
     (λ rules' d' hi' at' rest' p q t u. few s k rules' d' hi' at' rest' q (omega arith) u)
     (moves rules s hi m at l)
 
-pub short : Short
-unfolding whole
-short s =
+pub length-bound : LengthBound
+unfolding wholeWalk
+length-bound s =
     let f = few s (length s) Stream 0 (length s) 0 (visit 0 (gives (finish (length s))) ∷ []) (omega arith) (omega arith) (omega arith) in
     omega (arith, f .1)

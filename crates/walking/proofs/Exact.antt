@@ -16,8 +16,8 @@ use Rattle.stepping.specs.Items.{Item, finish, value, field}
 use Rattle.stepping.specs.declared.cursor.Rules.the-variants.{Stream}
 use Rattle.stepping.proofs.Places.{ValueIn, ItemIn, a-marker, a-value, a-field}
 use Rattle.stepping.proofs.Moves.{Moves, ends, hands, stops, moves}
-use Rattle.walking.specs.Walk.{deepest, parts, Visit, visit, behind, following, whole}
-use Rattle.walking.specs.Calls.{startOf, endAt, rulesAt, orAbove, seek, movedTo, pastValue, past, visitOf, calls, stateAfter}
+use Rattle.walking.specs.Walk.{deepest, parts, Visit, visit, behind, following, wholeWalk}
+use Rattle.walking.specs.Calls.{startOf, endAt, rulesAt, orAbove, seek, movedTo, stateAfterValue, stateAfterVisit, visitOf, calls, stateAfter}
 use Rattle.stepping.specs.Leaving.{isLast}
 use Rattle.values.specs.Scalars.{isContainer, bodyRules, typeOf}
 use Rattle.walking.specs.Private.State.{rulesBy}
@@ -69,8 +69,8 @@ module _ (s : List ℕ) where
 
   -- what is left is an answer and what is left behind it, at a state that the walk reaches; and the answer is not 50
   record Goes (w : Walk) (xs : List Visit) (v : Visit) : Type 0 where
-    list : xs ≡ v ∷ pick (isLast (v .answer)) [] (left (past w v))
-    fit : Fit s (past w v)
+    list : xs ≡ v ∷ pick (isLast (v .answer)) [] (left (stateAfterVisit w v))
+    fit : Fit s (stateAfterVisit w v)
     other : (p : ℕ) → v .answer ≡ refuses 50 p → ⊥
 
   gives-other : {i : Item} (p : ℕ) → _≡_ {A = Outcome Item} (gives i) (refuses 50 p) → ⊥
@@ -130,8 +130,8 @@ module _ (s : List ℕ) where
         (enters v b, enters-fit v b (i .ended) (i .within))
     at-value v i false u e = (refl, moved (v .end) false (i .within))
 
-    behind-value : {at : ℕ} (v : Spans) → ValueIn at (endAt w d) v → (behind d v (full s) onward ≡ left (pastValue w d v)) × Fit s (pastValue w d v)
-    unfolding pastValue
+    behind-value : {at : ℕ} (v : Spans) → ValueIn at (endAt w d) v → (behind d v (full s) onward ≡ left (stateAfterValue w d v)) × Fit s (stateAfterValue w d v)
+    unfolding stateAfterValue
     behind-value v i = at-value v i (isContainer v) (eqb d deepest) refl
 
     abbrev follows : Outcome Item → List Visit
@@ -199,7 +199,7 @@ module _ (s : List ℕ) where
   called (suc n) w fit =
       let g = next w fit in
       let v = visitOf s w in
-      ap (λ (xs : List Visit). v ∷ xs) (ending (isLast (v .answer)) (left (past w v)) (called n (past w v) (g .fit))) ∙ sym (ap (take (suc n)) (g .list))
+      ap (λ (xs : List Visit). v ∷ xs) (ending (isLast (v .answer)) (left (stateAfterVisit w v)) (called n (stateAfterVisit w v) (g .fit))) ∙ sym (ap (take (suc n)) (g .list))
     where
       ending : (t : Bool) {xs : List Visit} (ys : List Visit) → xs ≡ take n ys → pick t [] xs ≡ take n (pick t [] ys)
       ending true ys h = take-nil n
@@ -211,13 +211,13 @@ module _ (s : List ℕ) where
   start-fit : Fit s (startOf s)
   start-fit = record { depth = omega arith; ends = refl; fields = refl; at = omega arith; nested = omega arith }
 
-  start-left : left (startOf s) ≡ whole s
-  unfolding whole full outer
+  start-left : left (startOf s) ≡ wholeWalk s
+  unfolding wholeWalk full outer
   start-left = let z : length s - 0 ≡ length s = omega arith in rw z
 
   fit-after : (n : ℕ) (w : Walk) → Fit s w → Fit s (stateAfter n s w)
   fit-after zero w fit = fit
-  fit-after (suc n) w fit = fit-after n (past w (visitOf s w)) (next w fit .fit)
+  fit-after (suc n) w fit = fit-after n (stateAfterVisit w (visitOf s w)) (next w fit .fit)
 
 pub exact : Exact
 exact s n = called s n (startOf s) (start-fit s) ∙ ap (take n) (start-left s)

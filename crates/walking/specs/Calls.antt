@@ -56,8 +56,8 @@ abbrev pub movedTo : Walk → ℕ → ℕ → Bool → Walk
 movedTo w d at deep = record { ends = w .ends; fields = w .fields; depth = d; at = at; deep = deep }
 
 -- behind a value: in the body of a non-null container; before refusal 37 where that is too deep, its position the container's; else past the value
-unfoldable pub pastValue : Walk → ℕ → Spans → Walk
-pastValue w d v =
+unfoldable pub stateAfterValue : Walk → ℕ → Spans → Walk
+stateAfterValue w d v =
     pick (isContainer v)
     (pick (eqb d deepest) (movedTo w d (v .descriptor) true)
     (record {
@@ -70,15 +70,15 @@ pastValue w d v =
     (movedTo w d (v .end) false)
 
 -- the state behind an answer met at depth d: the one given behind a refusal
-abbrev pub pastAnswer : Walk → ℕ → Outcome Item → Walk
-pastAnswer w d (gives (finish p)) = movedTo w d p false
-pastAnswer w d (gives (marker a major minor e)) = movedTo w d e false
-pastAnswer w d (gives (value v)) = pastValue w d v
-pastAnswer w d (gives (field id a v)) = pastValue w d v
-pastAnswer w d (refuses number position) = w
+abbrev pub stateAfterAnswer : Walk → ℕ → Outcome Item → Walk
+stateAfterAnswer w d (gives (finish p)) = movedTo w d p false
+stateAfterAnswer w d (gives (marker a major minor e)) = movedTo w d e false
+stateAfterAnswer w d (gives (value v)) = stateAfterValue w d v
+stateAfterAnswer w d (gives (field id a v)) = stateAfterValue w d v
+stateAfterAnswer w d (refuses number position) = w
 
-abbrev pub past : Walk → Visit → Walk
-past w r = pastAnswer w (r .depth) (r .answer)
+abbrev pub stateAfterVisit : Walk → Visit → Walk
+stateAfterVisit w r = stateAfterAnswer w (r .depth) (r .answer)
 
 -- at a container that is too deep
 unfoldable pub barred : List ℕ → Walk → Visit
@@ -91,17 +91,17 @@ visitOf s w =
     (pick (w .deep) (barred s w) (seek s w (w .depth) (w .at)))
 
 abbrev pub nextOf : List ℕ → Walk → Called
-nextOf s w = record { visited = visitOf s w; next = past w (visitOf s w) }
+nextOf s w = record { visited = visitOf s w; next = stateAfterVisit w (visitOf s w) }
 
 -- the answers of n calls, each with the state that the call before left, up to the end or the first refusal
 unfoldable pub calls : ℕ → List ℕ → Walk → List Visit
 calls zero s w = []
-calls (suc n) s w = visitOf s w ∷ pick (isLast (visitOf s w .answer)) [] (calls n s (past w (visitOf s w)))
+calls (suc n) s w = visitOf s w ∷ pick (isLast (visitOf s w .answer)) [] (calls n s (stateAfterVisit w (visitOf s w)))
 
 -- the state that n calls leave, those behind the end and behind refusals too
 abbrev pub stateAfter : ℕ → List ℕ → Walk → Walk
 stateAfter zero s w = w
-stateAfter (suc n) s w = stateAfter n s (past w (visitOf s w))
+stateAfter (suc n) s w = stateAfter n s (stateAfterVisit w (visitOf s w))
 
 -- the items among answers of the walk: all but the end and a refusal, which come last
 abbrev pub itemsIn : List Visit → ℕ

@@ -56,5 +56,5 @@ walkOf (suc k) s rules d hi at rest =
     following d rest (walkOf k s) (λ e. walkOf k s rules d hi e rest) (answerAt rules s at hi)
 
 -- "The stream is depth 0": the walk of the whole map, and its end
-unfoldable pub whole : List ℕ → List Visit
-whole s = walkOf (length s) s Stream 0 (length s) 0 (visit 0 (gives (finish (length s))) ∷ [])
+unfoldable pub wholeWalk : List ℕ → List Visit
+wholeWalk s = walkOf (length s) s Stream 0 (length s) 0 (visit 0 (gives (finish (length s))) ∷ [])

@@ -6,8 +6,8 @@ ghost use mathlib.Core.Bool.{false};
 ghost use Rattle.numbers.specs.Outcome.{refuses};
 ghost use Rattle.framing.specs.Read.{spansOf};
 ghost use Rattle.stepping.specs.Read.{itemRead};
-ghost use Rattle.walking.specs.Walk.{deepest, visit, whole};
-ghost use Rattle.walking.specs.Calls.{startOf, seek, pastValue, past, visitOf, nextOf, calls, itemsIn, walkedRead};
+ghost use Rattle.walking.specs.Walk.{deepest, visit, wholeWalk};
+ghost use Rattle.walking.specs.Calls.{startOf, seek, stateAfterValue, stateAfterVisit, visitOf, nextOf, calls, itemsIn, walkedRead};
 ghost use Rattle.walking.specs.Private.State.{rulesBy, stateOf, seenRead, ShortAt, MetAt, endsBody};
 use framing::binary_buffer::bare_value;
 use framing::binary_buffer::begins_value;
@@ -110,7 +110,7 @@ fn pass_value(
     value: EncodedValue,
 ) -> Place
     requires { ⌜ depth ≤ deepest ⌝ }
-    ensures { λ r. ⌜ stateOf (now (ends .exit)) (now (fields .exit)) r ≡ pastValue (stateOf (now (ends .entry)) (now (fields .entry)) place) depth (spansOf value) ⌝ }
+    ensures { λ r. ⌜ stateOf (now (ends .exit)) (now (fields .exit)) r ≡ stateAfterValue (stateOf (now (ends .entry)) (now (fields .entry)) place) depth (spansOf value) ⌝ }
 {
     if !is_container(value) {
         return Place {
@@ -145,7 +145,7 @@ fn pass_item(
     item: Item,
 ) -> Place
     requires { ⌜ depth ≤ deepest ⌝ }
-    ensures { λ r. ⌜ stateOf (now (ends .exit)) (now (fields .exit)) r ≡ past (stateOf (now (ends .entry)) (now (fields .entry)) place) (visit depth (itemRead item)) ⌝ }
+    ensures { λ r. ⌜ stateOf (now (ends .exit)) (now (fields .exit)) r ≡ stateAfterVisit (stateOf (now (ends .entry)) (now (fields .entry)) place) (visit depth (itemRead item)) ⌝ }
 {
     match item {
         Item::End { position } => Place {
@@ -317,7 +317,7 @@ fn count_from(
 
 // How many items at most `most` calls of a map's walk hand out from its start.
 pub fn count_items(s: &[u8], most: u64) -> u64
-    ensures { λ r. ⌜ r ≡ itemsIn (take most (whole (now (s .entry)))) ⌝ }
+    ensures { λ r. ⌜ r ≡ itemsIn (take most (wholeWalk (now (s .entry)))) ⌝ }
 {
     let walk = Walk::start(s);
     let mut ends = walk.ends;

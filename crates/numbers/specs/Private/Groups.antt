@@ -10,7 +10,7 @@ use Rattle.numbers.specs.Format.{varUIntOf}
 use Rattle.numbers.specs.Outcome.{Outcome, gives, refuseIf, outsideOf}
 use Rattle.numbers.specs.Bytes.{part}
 use Rattle.numbers.specs.Answers.{Unsigned, lastByte, mostBytes, varUInt}
-use Rattle.numbers.specs.Short.{short, none, shortOf}
+use Rattle.numbers.specs.ShortVarUInt.{short, none, shortVarUIntOf}
 use Rattle.numbers.specs.declared.binary_buffer.FirstBytes.{FirstBytes}
 use Rattle.numbers.specs.declared.binary_buffer.FirstBytes.the-variants.{All, More, Outside}
 
@@ -32,10 +32,10 @@ pub record GoesOn (s : List ℕ) (at end v next : ℕ) : Type 0 where
   pub within : end ≤ length s
   pub small : v < 128 ^ (next - at)
   pub rest : varUInt s at end ≡ groups 3 v s at next end
-  pub long : shortOf at (varUInt s at end) ≡ none
+  pub long : shortVarUIntOf at (varUInt s at end) ≡ none
 
 -- what its first bytes, three at most, tell
 abbrev pub Begins : List ℕ → ℕ → ℕ → FirstBytes → Type 0
-Begins s at end (All v n) = shortOf at (varUInt s at end) ≡ short (record { value = v; next = n })
+Begins s at end (All v n) = shortVarUIntOf at (varUInt s at end) ≡ short (record { value = v; next = n })
 Begins s at end (More v n) = GoesOn s at end v n
 Begins s at end Outside = outsideOf s at end ≡ true

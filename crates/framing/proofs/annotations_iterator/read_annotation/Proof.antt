@@ -20,8 +20,8 @@ returns-2 : tie.Need-returns-2
 unfolding readAnnotation
 returns-2 c = rw (sym (c .before .before .outside .ensures) ∙ c .before .if1 .left, eq-eqb _ _ (c .if2 .taken))
 
-read-var-uint-requires : tie.Need-read-var-uint-requires
-read-var-uint-requires c κs = search needs
+read-var-uint-slow-requires : tie.Need-read-var-uint-slow-requires
+read-var-uint-slow-requires c κs = search needs
 
 enum-known-value : tie.Need-enum-known-value
 enum-known-value c = search needs
@@ -34,14 +34,14 @@ unfolding readAnnotation
 returns-3 c =
     let q = c .before .before .before in
     rw (sym (q .before .before .before .outside .ensures) ∙ q .before .before .if1 .left, ne-eqb _ _ (q .before .if2 .left))
-    (then-by varUIntRead identified (c .before .value .given .1) (q .read-var-uint .ensures))
+    (then-by varUIntRead identified (c .before .value .given .1) (q .read-var-uint-slow .ensures))
 
 returns-4 : tie.Need-returns-4
 unfolding readAnnotation
 returns-4 c =
     let q = c .before .before .before in
     rw (sym (q .before .before .before .outside .ensures) ∙ q .before .before .if1 .left, ne-eqb _ _ (q .before .if2 .left))
-    (then-by varUIntRead identified (c .before .refusal .given .1) (q .read-var-uint .ensures))
+    (then-by varUIntRead identified (c .before .refusal .given .1) (q .read-var-uint-slow .ensures))
 
 pub read-annotation-spec : {M : Type 1} → statement M
 read-annotation-spec =
@@ -50,7 +50,7 @@ read-annotation-spec =
     outside-requires
     returns
     returns-2
-    read-var-uint-requires
+    read-var-uint-slow-requires
     enum-known-value
     enum-known-refusal
     returns-3

@@ -22,8 +22,8 @@ read-length-requires c κs = search needs
 enum-known-body : tie.Need-enum-known-body
 enum-known-body c = search needs
 
-next-var-uint-requires : tie.Need-next-var-uint-requires
-next-var-uint-requires c κs = search needs
+read-var-uint-requires : tie.Need-read-var-uint-requires
+read-var-uint-requires c κs = search needs
 
 enum-known-value : tie.Need-enum-known-value
 enum-known-value c = search needs
@@ -34,7 +34,7 @@ check-wrapper-requires c κs =
     let r = q .before .before .before .before in
     let a = r .before .before .args in
     let l = each-of (length-each (a .s .now) (a .at + 1) (a .end) (a .descriptor .«length_code») (omega arith)) (sym (r .read-length .ensures) ∙ ap lengthRead (q .before .before .body .given .1)) in
-    let b = each-of (var-uint-bounded (a .s .now) _ (a .end)) (sym (q .next-var-uint .ensures) ∙ ap varUIntRead (c .before .value .given .1)) in
+    let b = each-of (var-uint-bounded (a .s .now) _ (a .end)) (sym (q .read-var-uint .ensures) ∙ ap varUIntRead (c .before .value .given .1)) in
     (omega (arith, b .begins), b .ends, b .short, b .small)
 
 enum-known-refusal : tie.Need-enum-known-refusal
@@ -50,7 +50,7 @@ returns c =
     let r = q .before .before .before .before in
     let a = r .before .before .args in
     c .check-wrapper .ensures
-    ∙ then-by varUIntRead (wrapperTests (a .at) (a .end) _) (c .before .before .value .given .1) (q .next-var-uint .ensures)
+    ∙ then-by varUIntRead (wrapperTests (a .at) (a .end) _) (c .before .before .value .given .1) (q .read-var-uint .ensures)
     ∙ then-by lengthRead (annotationsAt (a .s .now) (a .at) (a .end)) (q .before .before .body .given .1) (r .read-length .ensures)
 
 returns-2 : tie.Need-returns-2
@@ -59,7 +59,7 @@ returns-2 c =
     let q = c .before .before .before in
     let r = q .before .before .before .before in
     let a = r .before .before .args in
-    then-by varUIntRead (wrapperTests (a .at) (a .end) _) (c .before .refusal .given .1) (q .next-var-uint .ensures)
+    then-by varUIntRead (wrapperTests (a .at) (a .end) _) (c .before .refusal .given .1) (q .read-var-uint .ensures)
     ∙ then-by lengthRead (annotationsAt (a .s .now) (a .at) (a .end)) (q .before .before .body .given .1) (r .read-length .ensures)
 
 returns-3 : tie.Need-returns-3
@@ -76,7 +76,7 @@ read-wrapper-spec =
     add-after
     read-length-requires
     enum-known-body
-    next-var-uint-requires
+    read-var-uint-requires
     enum-known-value
     check-wrapper-requires
     enum-known-refusal

@@ -1,7 +1,7 @@
 -- `differs` meets its contract: its tests are the definition's.
 -- Assumes nothing.
 use borrow.Author.Tests.{eq-eqb, ne-eqb}
-use Rattle.framing.specs.Private.Opened.{differsFrom}
+use Rattle.framing.specs.Private.Located.{differsFrom}
 use Rattle.framing.proofs.binary_buffer.differs.Statement.{statement}
 use Rattle.framing.proofs.binary_buffer.differs.Tie as tie
 

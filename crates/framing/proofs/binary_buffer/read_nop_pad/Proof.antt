@@ -8,14 +8,14 @@ use Rattle.numbers.specs.Bytes.{part}
 use Rattle.numbers.specs.declared.type_descriptor.TypeDescriptor.{TypeDescriptor}
 use Rattle.numbers.proofs.Outcomes.{then-by, each-of}
 use Rattle.framing.specs.Answers.{padAt, padOrNone, readPad}
-use Rattle.framing.specs.Private.Begun.{begunRead}
-use Rattle.framing.proofs.Bounds.{BegunAt, begun-each}
+use Rattle.framing.specs.Private.Peeked.{peekedRead}
+use Rattle.framing.proofs.Bounds.{PeekedAt, peeked-each}
 use Rattle.framing.proofs.binary_buffer.read_nop_pad.Statement.{statement}
 use Rattle.framing.proofs.binary_buffer.read_nop_pad.Tie as tie
 
 -- the descriptor is one of the part
-told : (c : tie.After-begin) (d : TypeDescriptor) → begunRead (c .begin .result) ≡ gives d → let a = c .before .before .args in BegunAt (a .s .now) (a .at) (a .end) d
-told c d e = let a = c .before .before .args in each-of (begun-each (a .s .now) (a .at) (a .end)) (sym (c .begin .ensures) ∙ e)
+told : (c : tie.After-peek-type-descriptor) (d : TypeDescriptor) → peekedRead (c .peek-type-descriptor .result) ≡ gives d → let a = c .before .before .args in PeekedAt (a .s .now) (a .at) (a .end) d
+told c d e = let a = c .before .before .args in each-of (peeked-each (a .s .now) (a .at) (a .end)) (sym (c .peek-type-descriptor .ensures) ∙ e)
 
 -- what the test says of the answer
 refused : (c : tie.Then1) → let a = c .before .before .before .before .before .before .before .args in padOrNone (a .s .now) (a .at) (a .end) (c .before .before .before .descriptor .given .0 .0) ≡ refuses 22 (a .at)
@@ -26,8 +26,8 @@ left : (c : tie.Else1) → let a = c .before .before .before .before .before .be
 unfolding padOrNone
 left c = rw (sym (c .before .is-pad .ensures) ∙ not-false _ (c .if1 .left))
 
-begin-requires : tie.Need-begin-requires
-begin-requires c κs = search needs
+peek-type-descriptor-requires : tie.Need-peek-type-descriptor-requires
+peek-type-descriptor-requires c κs = search needs
 
 enum-known-descriptor : tie.Need-enum-known-descriptor
 enum-known-descriptor c = search needs
@@ -41,11 +41,11 @@ returns c =
     let d = c .before .before in
     let q = d .before .before .before in
     let a = q .before .before .args in
-    sym (refused c) ∙ then-by begunRead (padOrNone (a .s .now) (a .at) (a .end)) (d .before .descriptor .given .1) (q .begin .ensures)
+    sym (refused c) ∙ then-by peekedRead (padOrNone (a .s .now) (a .at) (a .end)) (d .before .descriptor .given .1) (q .peek-type-descriptor .ensures)
 
 read-pad-requires : tie.Need-read-pad-requires
 read-pad-requires c κs =
-    let t = told (c .before .before .before .before .before) _ (ap begunRead (c .before .before .before .descriptor .given .1)) in (t .before, t .inside)
+    let t = told (c .before .before .before .before .before) _ (ap peekedRead (c .before .before .before .descriptor .given .1)) in (t .before, t .inside)
 
 enum-known-refusal : tie.Need-enum-known-refusal
 enum-known-refusal c = search needs
@@ -56,20 +56,20 @@ returns-2 c =
     let d = c .before .before .before in
     let q = d .before .before .before in
     let a = q .before .before .args in
-    c .read-pad .ensures ∙ sym (left (c .before)) ∙ then-by begunRead (padOrNone (a .s .now) (a .at) (a .end)) (d .before .descriptor .given .1) (q .begin .ensures)
+    c .read-pad .ensures ∙ sym (left (c .before)) ∙ then-by peekedRead (padOrNone (a .s .now) (a .at) (a .end)) (d .before .descriptor .given .1) (q .peek-type-descriptor .ensures)
 
 returns-3 : tie.Need-returns-3
 unfolding readPad
 returns-3 c =
     let q = c .before .before .before in
     let a = q .before .before .args in
-    then-by begunRead (padOrNone (a .s .now) (a .at) (a .end)) (c .before .refusal .given .1) (q .begin .ensures)
+    then-by peekedRead (padOrNone (a .s .now) (a .at) (a .end)) (c .before .refusal .given .1) (q .peek-type-descriptor .ensures)
 
 pub read-nop-pad-spec : {M : Type 1} → statement M
 read-nop-pad-spec =
     tie.close
     (tie.spec
-    begin-requires
+    peek-type-descriptor-requires
     enum-known-descriptor
     is-pad-requires
     returns

@@ -7,24 +7,24 @@ use Rattle.numbers.specs.Bytes.{part}
 use Rattle.numbers.specs.declared.type_descriptor.TypeDescriptor.{TypeDescriptor}
 use Rattle.numbers.proofs.Outcomes.{then-by, each-of}
 use Rattle.framing.specs.Answers.{valueAt, readValue}
-use Rattle.framing.specs.Private.Begun.{begunRead}
-use Rattle.framing.proofs.Bounds.{BegunAt, begun-each}
+use Rattle.framing.specs.Private.Peeked.{peekedRead}
+use Rattle.framing.proofs.Bounds.{PeekedAt, peeked-each}
 use Rattle.framing.proofs.binary_buffer.read_value.Statement.{statement}
 use Rattle.framing.proofs.binary_buffer.read_value.Tie as tie
 
 -- the descriptor is one of the part
-told : (c : tie.After-begin) (d : TypeDescriptor) → begunRead (c .begin .result) ≡ gives d → let a = c .before .before .args in BegunAt (a .s .now) (a .at) (a .end) d
-told c d e = let a = c .before .before .args in each-of (begun-each (a .s .now) (a .at) (a .end)) (sym (c .begin .ensures) ∙ e)
+told : (c : tie.After-peek-type-descriptor) (d : TypeDescriptor) → peekedRead (c .peek-type-descriptor .result) ≡ gives d → let a = c .before .before .args in PeekedAt (a .s .now) (a .at) (a .end) d
+told c d e = let a = c .before .before .args in each-of (peeked-each (a .s .now) (a .at) (a .end)) (sym (c .peek-type-descriptor .ensures) ∙ e)
 
-begin-requires : tie.Need-begin-requires
-begin-requires c κs = search needs
+peek-type-descriptor-requires : tie.Need-peek-type-descriptor-requires
+peek-type-descriptor-requires c κs = search needs
 
 enum-known-descriptor : tie.Need-enum-known-descriptor
 enum-known-descriptor c = search needs
 
 read-value-at-requires : tie.Need-read-value-at-requires
 read-value-at-requires c κs =
-    let t = told (c .before .before .before) _ (ap begunRead (c .before .descriptor .given .1)) in (t .before, t .inside)
+    let t = told (c .before .before .before) _ (ap peekedRead (c .before .descriptor .given .1)) in (t .before, t .inside)
 
 enum-known-refusal : tie.Need-enum-known-refusal
 enum-known-refusal c = search needs
@@ -34,20 +34,20 @@ unfolding readValue
 returns c =
     let q = c .before .before .before .before in
     let a = q .before .before .args in
-    c .read-value-at .ensures ∙ then-by begunRead (valueAt (a .s .now) (a .at) (a .end)) (c .before .before .descriptor .given .1) (q .begin .ensures)
+    c .read-value-at .ensures ∙ then-by peekedRead (valueAt (a .s .now) (a .at) (a .end)) (c .before .before .descriptor .given .1) (q .peek-type-descriptor .ensures)
 
 returns-2 : tie.Need-returns-2
 unfolding readValue
 returns-2 c =
     let q = c .before .before .before in
     let a = q .before .before .args in
-    then-by begunRead (valueAt (a .s .now) (a .at) (a .end)) (c .before .refusal .given .1) (q .begin .ensures)
+    then-by peekedRead (valueAt (a .s .now) (a .at) (a .end)) (c .before .refusal .given .1) (q .peek-type-descriptor .ensures)
 
 pub read-value-spec : {M : Type 1} → statement M
 read-value-spec =
     tie.close
     (tie.spec
-    begin-requires
+    peek-type-descriptor-requires
     enum-known-descriptor
     read-value-at-requires
     enum-known-refusal

@@ -1,7 +1,7 @@
 -- `is_ordered` meets its contract: its tests are the definition's.
 -- Assumes nothing.
 use borrow.Author.Tests.{eq-eqb, ne-eqb}
-use Rattle.framing.specs.Private.Telling.{isOrdered}
+use Rattle.framing.specs.Private.InlineLengths.{isOrdered}
 use Rattle.framing.proofs.encoded_value.is_ordered.Statement.{statement}
 use Rattle.framing.proofs.encoded_value.is_ordered.Tie as tie
 

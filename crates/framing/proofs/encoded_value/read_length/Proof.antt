@@ -16,8 +16,8 @@ returns-2 : tie.Need-returns-2
 unfolding lengthAt
 returns-2 c = rw (ne-eqb _ _ (c .before .if1 .left), ne-eqb _ _ (c .if2 .taken))
 
-next-var-uint-requires : tie.Need-next-var-uint-requires
-next-var-uint-requires c κs = search needs
+read-var-uint-requires : tie.Need-read-var-uint-requires
+read-var-uint-requires c κs = search needs
 
 enum-known-value : tie.Need-enum-known-value
 enum-known-value c = search needs
@@ -30,14 +30,14 @@ unfolding lengthAt
 returns-3 c =
     let q = c .before .before .before in
     rw (ne-eqb _ _ (q .before .before .if1 .left), eq-eqb _ _ (q .before .if2 .left))
-    (then-by varUIntRead sizedBy (c .before .value .given .1) (q .next-var-uint .ensures))
+    (then-by varUIntRead sizedBy (c .before .value .given .1) (q .read-var-uint .ensures))
 
 returns-4 : tie.Need-returns-4
 unfolding lengthAt
 returns-4 c =
     let q = c .before .before .before in
     rw (ne-eqb _ _ (q .before .before .if1 .left), eq-eqb _ _ (q .before .if2 .left))
-    (then-by varUIntRead sizedBy (c .before .refusal .given .1) (q .next-var-uint .ensures))
+    (then-by varUIntRead sizedBy (c .before .refusal .given .1) (q .read-var-uint .ensures))
 
 pub read-length-spec : {M : Type 1} → statement M
 read-length-spec =
@@ -45,7 +45,7 @@ read-length-spec =
     (tie.spec
     returns
     returns-2
-    next-var-uint-requires
+    read-var-uint-requires
     enum-known-value
     enum-known-refusal
     returns-3

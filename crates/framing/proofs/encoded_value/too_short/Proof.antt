@@ -8,7 +8,7 @@ use mathlib.Core.Bool.{Bool, true, false}
 use lib.Dec.{eqb}
 use Rattle.numbers.specs.Outcome.{pick}
 use Rattle.framing.specs.Answers.{shortTimestamp, emptyOrdered}
-use Rattle.framing.specs.Private.Telling.{tooShort}
+use Rattle.framing.specs.Private.InlineLengths.{tooShort}
 use Rattle.framing.proofs.encoded_value.too_short.Statement.{statement}
 use Rattle.framing.proofs.encoded_value.too_short.Tie as tie
 

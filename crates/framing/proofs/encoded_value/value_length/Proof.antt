@@ -8,26 +8,26 @@ use Rattle.numbers.specs.Outcome.{gives}
 use Rattle.numbers.proofs.Outcomes.{then-by}
 use Rattle.framing.specs.Answers.{lengthAt, lengthTests, valueLength}
 use Rattle.framing.specs.Read.{lengthRead}
-use Rattle.framing.specs.Private.Telling.{tellsLength}
-use Rattle.framing.proofs.Telling.{told-read}
+use Rattle.framing.specs.Private.InlineLengths.{hasInlineLength}
+use Rattle.framing.proofs.InlineLengths.{inline-read}
 use Rattle.framing.proofs.encoded_value.value_length.Statement.{statement}
 use Rattle.framing.proofs.encoded_value.value_length.Tie as tie
 
 add-after : tie.Need-add-after
 add-after c = search needs
 
-tells-length-requires : tie.Need-tells-length-requires
-tells-length-requires c κs = search needs
+has-inline-length-requires : tie.Need-has-inline-length-requires
+has-inline-length-requires c κs = search needs
 
-told-length-requires : tie.Need-told-length-requires
-told-length-requires c κs = search needs
+inline-length-requires : tie.Need-inline-length-requires
+inline-length-requires c κs = search needs
 
 returns : tie.Need-returns
 returns c =
     let q = c .before .before in
     let a = q .before .before .args in
-    let h : tellsLength (a .descriptor .«type_code») (a .descriptor .«length_code») ≡ true = sym (q .tells-length .ensures) ∙ c .before .if1 .taken in
-    ap (λ n. gives (record { body = a .at + 1; size = n })) (c .told-length .ensures) ∙ sym (told-read (a .s .now) (a .at) (a .end) (a .descriptor) h)
+    let h : hasInlineLength (a .descriptor .«type_code») (a .descriptor .«length_code») ≡ true = sym (q .has-inline-length .ensures) ∙ c .before .if1 .taken in
+    ap (λ n. gives (record { body = a .at + 1; size = n })) (c .inline-length .ensures) ∙ sym (inline-read (a .s .now) (a .at) (a .end) (a .descriptor) h)
 
 value-code-requires : tie.Need-value-code-requires
 value-code-requires c κs = search needs
@@ -64,8 +64,8 @@ value-length-spec =
     tie.close
     (tie.spec
     add-after
-    tells-length-requires
-    told-length-requires
+    has-inline-length-requires
+    inline-length-requires
     returns
     value-code-requires
     read-length-requires

@@ -11,8 +11,8 @@ use borrow.Author.Needs.{needs}
 use Rattle.maps.proofs.exports.number_by.Statement.{statement}
 use Rattle.maps.proofs.exports.number_by.Tie as tie
 
-read-var-uint-requires : tie.Need-read-var-uint-requires
-read-var-uint-requires c κs = search needs
+read-var-uint-slow-requires : tie.Need-read-var-uint-slow-requires
+read-var-uint-slow-requires c κs = search needs
 
 enum-known-value : tie.Need-enum-known-value
 enum-known-value c = search needs
@@ -31,7 +31,7 @@ unfolding numberBy
 returns c =
     let q = c .before .before .before .before in
     let a = q .before .before .before .args in
-    let e = then-by varUIntRead ofUnsigned (c .before .before .value .given .1) (q .read-var-uint .ensures) in
+    let e = then-by varUIntRead ofUnsigned (c .before .before .value .given .1) (q .read-var-uint-slow .ensures) in
     rw (eq-eqb _ _ (q .before .if1 .taken)) (c .number-words .ensures ∙ ap (numberWords (a .position)) e)
 
 returns-2 : tie.Need-returns-2
@@ -39,7 +39,7 @@ unfolding numberBy
 returns-2 c =
     let q = c .before .before .before .before in
     let a = q .before .before .before .args in
-    let e = then-by varUIntRead ofUnsigned (c .before .before .refusal .given .1) (q .read-var-uint .ensures) in
+    let e = then-by varUIntRead ofUnsigned (c .before .before .refusal .given .1) (q .read-var-uint-slow .ensures) in
     rw (eq-eqb _ _ (q .before .if1 .taken)) (c .refused-words .ensures ∙ ap (numberWords (a .position)) e)
 
 read-var-int-requires : tie.Need-read-var-int-requires
@@ -111,7 +111,7 @@ pub number-by-spec : {M : Type 1} → statement M
 number-by-spec =
     tie.close
     (tie.spec
-    read-var-uint-requires
+    read-var-uint-slow-requires
     enum-known-value
     number-words-requires
     enum-known-refusal

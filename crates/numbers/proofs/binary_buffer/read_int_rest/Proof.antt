@@ -6,10 +6,10 @@ use mathlib.Core.Path.{_≡_, _∙_, sym, ap}
 use Rattle.numbers.specs.Outcome.{gives}
 use Rattle.numbers.specs.Answers.{Fixed, intRest, restOf}
 use Rattle.numbers.specs.Read.{intRead}
-use Rattle.numbers.specs.Meaning.{IntTold}
+use Rattle.numbers.specs.Meaning.{IntMeaning}
 use Rattle.numbers.specs.declared.int.Int.{Int}
 use Rattle.numbers.proofs.Parts.{part-taken}
-use Rattle.numbers.proofs.Meaning.{ints-told}
+use Rattle.numbers.proofs.Meaning.{ints-sound}
 use Rattle.numbers.proofs.binary_buffer.read_int_rest.Statement.{statement}
 use Rattle.numbers.proofs.binary_buffer.read_int_rest.Tie as tie
 use Rattle.numbers.proofs.binary_buffer.read_int_rest.Reads as reads
@@ -17,10 +17,10 @@ use Rattle.numbers.proofs.binary_buffer.read_int_rest.Lts as lts
 use Rattle.numbers.proofs.binary_buffer.read_int.Reads as read-int-reads
 
 -- what the bytes are where an Int was read
-told : (c : tie.After-read-int) (i : Fixed) → intRead (c .read-int .result) ≡ gives i → let a = c .before .before .args in IntTold (a .s .now) (a .at) (a .end) (a .length) i
+told : (c : tie.After-read-int) (i : Fixed) → intRead (c .read-int .result) ≡ gives i → let a = c .before .before .args in IntMeaning (a .s .now) (a .at) (a .end) (a .length) i
 told c i e =
     let a = c .before .before .args in
-    ints-told (a .s .now) (a .at) (a .end) (a .length) i (sym (c .read-int .ensures) ∙ e)
+    ints-sound (a .s .now) (a .at) (a .end) (a .length) i (sym (c .read-int .ensures) ∙ e)
 
 -- the bytes after the first, by the answer
 rest : (c : tie.After-read-int) {u : Int} → c .read-int .result ≡ u → let a = c .before .before .args in restOf (a .s .now) (intRead u) ≡ intRest (a .s .now) (a .at) (a .end) (a .length)

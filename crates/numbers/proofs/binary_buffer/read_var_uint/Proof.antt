@@ -1,51 +1,62 @@
--- `read_var_uint` meets its contract: a VarUInt is its groups, with nothing before them.
+-- `read_var_uint` meets its contract: the first bytes are all of the VarUInt, or it goes on past them.
 -- Assumes nothing.
-use Prim.Native.Nat.{_-_, _≤_}
-use native.Mathlib.Omega.{arith}
-use mathlib.Core.Path.{_≡_, _∙_, sym}
-use mathlib.Core.Bool.{false}
-use lib.ListN.{length}
-use Rattle.numbers.specs.Outcome.{outsideOf}
+use mathlib.Core.Path.{_≡_, _∙_, sym, subst}
 use Rattle.numbers.specs.Answers.{varUInt, varNumber}
-use Rattle.numbers.proofs.Outcomes.{inside-order, inside-end}
-use Rattle.numbers.proofs.Grouping.{var-uint-groups}
+use Rattle.numbers.specs.Private.Groups.{Begins}
+use Rattle.numbers.specs.declared.binary_buffer.FirstBytes.{FirstBytes}
+use Rattle.numbers.proofs.ShortVarUInts.{short-given}
 use borrow.Author.Needs.{needs}
 use Rattle.numbers.proofs.binary_buffer.read_var_uint.Statement.{statement}
 use Rattle.numbers.proofs.binary_buffer.read_var_uint.Tie as tie
-use Rattle.numbers.proofs.binary_buffer.read_var_uint.Reads as reads
-use Rattle.numbers.proofs.binary_buffer.read_var_uint.Lts as lts
-use Rattle.numbers.proofs.binary_buffer.outside.Reads as outside-reads
-use Rattle.numbers.proofs.binary_buffer.read_groups.Reads as read-groups-reads
-use Rattle.numbers.proofs.binary_buffer.refused.Reads as refused-reads
 
--- past the first test at..end is a part of the slice
-in-part : (c : tie.Else1) → let a = c .before .before .before .args in (a .at ≤ a .end) × (a .end ≤ length (a .s .now))
-in-part c =
-    let a = c .before .before .before .args in
-    let e : outsideOf (a .s .now) (a .at) (a .end) ≡ false = sym (c .before .outside .ensures) ∙ c .if1 .left in
-    (inside-order (a .s .now) (a .at) (a .end) e, inside-end (a .s .now) (a .at) (a .end) e)
+-- what is told where the answer is f
+told : (q : tie.After-read-first-bytes) {f : FirstBytes} → q .read-first-bytes .result ≡ f → let a = q .before .before .args in Begins (a .s .now) (a .at) (a .end) f
+told q e = let a = q .before .before .args in subst (Begins (a .s .now) (a .at) (a .end)) e (q .read-first-bytes .ensures)
 
-outside-requires : tie.Need-outside-requires
-outside-requires c κs = search needs
+read-first-bytes-requires : tie.Need-read-first-bytes-requires
+read-first-bytes-requires c κs = search needs
+
+enum-known-value : tie.Need-enum-known-value
+enum-known-value c = search needs
+
+enum-known-value-2 : tie.Need-enum-known-value-2
+enum-known-value-2 c = search needs
+
+read-groups-requires : tie.Need-read-groups-requires
+read-groups-requires c κs =
+    let g = told (c .before .before .before) (c .before .value2 .given .1) in (g .begins, g .ends, g .within, g .small)
+
+enum-told : tie.Need-enum-told
+enum-told c = search needs
 
 refused-requires : tie.Need-refused-requires
 refused-requires c κs = search needs
 
 returns : tie.Need-returns
-unfolding varUInt varNumber
-returns c = rw (c .refused .ensures, sym (c .before .before .outside .ensures) ∙ c .before .if1 .taken)
-
-read-groups-requires : tie.Need-read-groups-requires
-read-groups-requires c κs =
-    let a = c .before .before .before .args in
-    let e : a .at - a .at ≡ 0 = omega arith in
-    (omega arith, in-part c .0, in-part c .1, rw e (omega arith))
+returns c =
+    let q = c .before .before .before in
+    let a = q .before .before .args in
+    sym (short-given (a .at) (varUInt (a .s .now) (a .at) (a .end)) (told q (c .before .value .given .1)))
 
 returns-2 : tie.Need-returns-2
 returns-2 c =
-    let a = c .before .before .before .before .args in
-    c .read-groups .ensures ∙ sym (var-uint-groups (a .s .now) (a .at) (a .end) (in-part (c .before) .0) (in-part (c .before) .1))
+    let d = c .before .before in
+    c .read-groups .ensures ∙ sym (told (d .before .before) (d .value2 .given .1) .rest)
+
+returns-3 : tie.Need-returns-3
+unfolding varUInt varNumber
+returns-3 c = rw (c .refused .ensures, told (c .before .before .before) (c .before .enum-told .given .1))
 
 pub read-var-uint-spec : {M : Type 1} → statement M
 read-var-uint-spec =
-    tie.close (tie.spec outside-requires refused-requires returns read-groups-requires returns-2)
+    tie.close
+    (tie.spec
+    read-first-bytes-requires
+    enum-known-value
+    enum-known-value-2
+    read-groups-requires
+    enum-told
+    refused-requires
+    returns
+    returns-2
+    returns-3)

@@ -9,11 +9,11 @@ use Rattle.numbers.proofs.binary_buffer.short_var_uint.Statement.{state
 use Rattle.numbers.proofs.binary_buffer.short_var_uint.Tie as tie
 
 -- what is told where the answer is f
-told : (q : tie.After-read-first) {f : FirstBytes} → q .read-first .result ≡ f → let a = q .before .before .args in Begins (a .s .now) (a .at) (a .end) f
-told q e = let a = q .before .before .args in subst (Begins (a .s .now) (a .at) (a .end)) e (q .read-first .ensures)
+told : (q : tie.After-read-first-bytes) {f : FirstBytes} → q .read-first-bytes .result ≡ f → let a = q .before .before .args in Begins (a .s .now) (a .at) (a .end) f
+told q e = let a = q .before .before .args in subst (Begins (a .s .now) (a .at) (a .end)) e (q .read-first-bytes .ensures)
 
-read-first-requires : tie.Need-read-first-requires
-read-first-requires c κs = search needs
+read-first-bytes-requires : tie.Need-read-first-bytes-requires
+read-first-bytes-requires c κs = search needs
 
 enum-known-value : tie.Need-enum-known-value
 enum-known-value c = search needs
@@ -38,7 +38,7 @@ pub short-var-uint-spec : {M : Type 1} → statement M
 short-var-uint-spec =
     tie.close
     (tie.spec
-    read-first-requires
+    read-first-bytes-requires
     enum-known-value
     enum-told
     enum-told-2

@@ -12,8 +12,8 @@ use Rattle.records.proofs.words.body_words.Tie as tie
 enum-known-body : tie.Need-enum-known-body
 enum-known-body c = search needs
 
-kind-of-requires : tie.Need-kind-of-requires
-kind-of-requires c κs = search needs
+part-kind-requires : tie.Need-part-kind-requires
+part-kind-requires c κs = search needs
 
 enum-known-body-2 : tie.Need-enum-known-body-2
 enum-known-body-2 c = search needs
@@ -23,7 +23,7 @@ refused-words-requires c κs = search needs
 
 returns : tie.Need-returns
 returns c =
-    let a = c .before .before .before .before .args in rw (c .kind-of .ensures) (ap (λ (x : Body). bodyWords (andThen (bodyRead x) (enteredAt (a .descriptor)))) (sym (c .before .before .body .given .1)))
+    let a = c .before .before .before .before .args in rw (c .part-kind .ensures) (ap (λ (x : Body). bodyWords (andThen (bodyRead x) (enteredAt (a .descriptor)))) (sym (c .before .before .body .given .1)))
 
 returns-2 : tie.Need-returns-2
 returns-2 c =
@@ -34,7 +34,7 @@ body-words-spec =
     tie.close
     (tie.spec
     enum-known-body
-    kind-of-requires
+    part-kind-requires
     enum-known-body-2
     refused-words-requires
     returns

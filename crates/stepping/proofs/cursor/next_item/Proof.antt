@@ -1,7 +1,7 @@
 -- `next_item` meets its contract: the answer settles the cursor.
 -- Assumes nothing.
 use Rattle.stepping.specs.Read.{itemRead}
-use Rattle.stepping.proofs.Walking.{step-is}
+use Rattle.stepping.proofs.PadSkipping.{step-is}
 use borrow.Author.Needs.{needs}
 use Rattle.stepping.proofs.cursor.next_item.Statement.{statement}
 use Rattle.stepping.proofs.cursor.next_item.Tie as tie

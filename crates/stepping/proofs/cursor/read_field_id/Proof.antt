@@ -9,8 +9,8 @@ use Rattle.stepping.specs.Names.{followed, fieldId}
 use Rattle.stepping.proofs.cursor.read_field_id.Statement.{statement}
 use Rattle.stepping.proofs.cursor.read_field_id.Tie as tie
 
-next-var-uint-requires : tie.Need-next-var-uint-requires
-next-var-uint-requires c κs = search needs
+read-var-uint-requires : tie.Need-read-var-uint-requires
+read-var-uint-requires c κs = search needs
 
 enum-known-value : tie.Need-enum-known-value
 enum-known-value c = search needs
@@ -20,7 +20,7 @@ unfolding fieldId followed
 returns c =
     let q = c .before .before .before .before in
     let a = q .before .before .args in
-    (rw (eq-eqb _ _ (c .if1 .taken))) ∙ then-by varUIntRead (followed (a .end)) (c .before .before .value .given .1) (q .next-var-uint .ensures)
+    (rw (eq-eqb _ _ (c .if1 .taken))) ∙ then-by varUIntRead (followed (a .end)) (c .before .before .value .given .1) (q .read-var-uint .ensures)
 
 enum-known-refusal : tie.Need-enum-known-refusal
 enum-known-refusal c = search needs
@@ -30,19 +30,19 @@ unfolding fieldId followed
 returns-2 c =
     let q = c .before .before .before .before in
     let a = q .before .before .args in
-    (rw (ne-eqb _ _ (c .if1 .left))) ∙ then-by varUIntRead (followed (a .end)) (c .before .before .value .given .1) (q .next-var-uint .ensures)
+    (rw (ne-eqb _ _ (c .if1 .left))) ∙ then-by varUIntRead (followed (a .end)) (c .before .before .value .given .1) (q .read-var-uint .ensures)
 
 returns-3 : tie.Need-returns-3
 unfolding fieldId
 returns-3 c =
     let q = c .before .before .before in
-    then-by varUIntRead (followed (q .before .before .args .end)) (c .before .refusal .given .1) (q .next-var-uint .ensures)
+    then-by varUIntRead (followed (q .before .before .args .end)) (c .before .refusal .given .1) (q .read-var-uint .ensures)
 
 pub read-field-id-spec : {M : Type 1} → statement M
 read-field-id-spec =
     tie.close
     (tie.spec
-    next-var-uint-requires
+    read-var-uint-requires
     enum-known-value
     returns
     enum-known-refusal

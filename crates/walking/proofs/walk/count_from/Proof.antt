@@ -18,14 +18,14 @@ use Rattle.stepping.specs.Names.{itemBy}
 use Rattle.stepping.specs.Read.{itemRead}
 use Rattle.stepping.specs.declared.cursor.Rules.{Rules}
 use Rattle.walking.specs.Walk.{deepest, parts, visit}
-use Rattle.walking.specs.Calls.{endAt, past, visitOf, calls, itemsIn}
+use Rattle.walking.specs.Calls.{endAt, stateAfterVisit, visitOf, calls, itemsIn}
 use Rattle.walking.specs.Private.State.{stateOf, MetAt}
 use Rattle.walking.specs.declared.walk.Met.{Met}
 use Rattle.walking.specs.declared.walk.Met.the-variants.{Value, Behind, Refused}
 use Rattle.walking.specs.declared.walk.Place.{Place}
 use Rattle.walking.specs.declared.walk.Walk.{Walk}
 use Rattle.walking.proofs.Seeking.{stepHere, outside-here, nothing-here, too-deep, barred-last, item-here, refused-here, end-here, last-here, above-here, EndsBody, ends-body}
-use Rattle.walking.proofs.Counting.{none-called, last-called, one-called, same-called, named-item, past-named, past-depth}
+use Rattle.walking.proofs.Counting.{none-called, last-called, one-called, same-called, named-item, after-named, after-depth}
 use Rattle.walking.proofs.walk.count_from.Statement.{statement}
 use Rattle.walking.proofs.walk.count_from.Tie as tie
 
@@ -103,7 +103,7 @@ rose k p n e h =
     omega (arith, t .before .loop .inv .1, m, u)
 
 -- behind an item there is one less to count, and the place is not too deep
-went : (k : tie.Else3 Inv-loop μ-loop) (o : Outcome Item) (x : Walk) → let t = turn (shallow k) in isLast o ≡ false → stepHere (slice t) (state t) ≡ o → x ≡ past (state t) (visit (state t .depth) o) → (counted t + 1 + itemsIn (calls (calling t - (counted t + 1)) (slice t) x) ≡ total t) × (x .depth ≤ deepest)
+went : (k : tie.Else3 Inv-loop μ-loop) (o : Outcome Item) (x : Walk) → let t = turn (shallow k) in isLast o ≡ false → stepHere (slice t) (state t) ≡ o → x ≡ stateAfterVisit (state t) (visit (state t .depth) o) → (counted t + 1 + itemsIn (calls (calling t - (counted t + 1)) (slice t) x) ≡ total t) × (x .depth ≤ deepest)
 went k o x i e h =
     let t = turn (shallow k) in
     let w = state t in
@@ -112,7 +112,7 @@ went k o x i e h =
     let m = one-called (slice t) w (item-here (slice t) w l (shallow k .if2 .left) o i e) i q in
     let n = ap (λ (z : Walk). itemsIn (calls (calling t - (counted t + 1)) (slice t) z)) h in
     let d = ap (λ (z : Walk). z .depth) h in
-    (omega (arith, t .before .loop .inv .1, m, n), omega (arith, d, past-depth w (w .depth) o i l))
+    (omega (arith, t .before .loop .inv .1, m, n), omega (arith, d, after-depth w (w .depth) o i l))
 
 -- what is met is met by the rules of the part
 by-rules : (r : tie.After-rules-at Inv-loop μ-loop) {o : Outcome Item} → let t = turn (shallow (ruled r)) in answerAt (r .rules-at .result) (slice t) (state t .at) (endAt (state t) (state t .depth)) ≡ o → stepHere (slice t) (state t) ≡ o
@@ -152,7 +152,7 @@ valued c =
     let s = spansOf (v .0 .0) in
     let rules = r .rules-at .result in
     went (ruled r) (gives (itemBy rules (w .at) (g .0) s)) (stateOf (c .pass-value .last .0) (c .pass-value .last .1 .0) (c .pass-value .result))
-    (named-item rules (w .at) (g .0) s) (by-rules r (g .1)) (c .pass-value .ensures ∙ sym (past-named w (w .depth) rules (w .at) (g .0) s))
+    (named-item rules (w .at) (g .0) s) (by-rules r (g .1)) (c .pass-value .ensures ∙ sym (after-named w (w .depth) rules (w .at) (g .0) s))
 
 handed : (c : tie.After-pass-item Inv-loop μ-loop) → let t = turn (shallow (ruled (meeting (behind c) .before))) in let x = stateOf (c .pass-item .last .0) (c .pass-item .last .1 .0) (c .pass-item .result) in (counted t + 1 + itemsIn (calls (calling t - (counted t + 1)) (slice t) x) ≡ total t) × (x .depth ≤ deepest)
 handed c =

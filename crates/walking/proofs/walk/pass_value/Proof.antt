@@ -3,7 +3,7 @@
 use borrow.Author.Tests.{eq-eqb, ne-eqb, not-true, not-false}
 use native.Mathlib.Numerals.{add-one}
 use mathlib.Core.Path.{refl, _∙_, sym}
-use Rattle.walking.specs.Calls.{pastValue}
+use Rattle.walking.specs.Calls.{stateAfterValue}
 use borrow.Author.Needs.{needs}
 use Rattle.walking.proofs.walk.pass_value.Statement.{statement}
 use Rattle.walking.proofs.walk.pass_value.Tie as tie
@@ -12,11 +12,11 @@ is-container-requires : tie.Need-is-container-requires
 is-container-requires c κs = search needs
 
 returns : tie.Need-returns
-unfolding pastValue
+unfolding stateAfterValue
 returns c = rw (sym (c .before .is-container .ensures) ∙ not-true _ (c .if1 .taken))
 
 returns-2 : tie.Need-returns-2
-unfolding pastValue
+unfolding stateAfterValue
 returns-2 c =
     rw (sym (c .before .before .is-container .ensures) ∙ not-false _ (c .before .if1 .left), eq-eqb _ _ (c .if2 .taken))
 
@@ -33,7 +33,7 @@ element-write-fields : tie.Need-element-write-fields
 element-write-fields c = search needs
 
 returns-3 : tie.Need-returns-3
-unfolding pastValue
+unfolding stateAfterValue
 returns-3 c =
     let d = c .before in
     rw (sym (d .before .before .is-container .ensures) ∙ not-false _ (d .before .if1 .left), ne-eqb _ _ (d .if2 .left), add-one (d .before .before .before .args .depth)) refl

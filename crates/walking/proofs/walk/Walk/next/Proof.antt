@@ -3,7 +3,7 @@
 use native.Mathlib.Omega.{arith}
 use mathlib.Core.Path.{_≡_, _∙_, ap}
 use Rattle.walking.specs.Walk.{Visit}
-use Rattle.walking.specs.Calls.{past, visitOf}
+use Rattle.walking.specs.Calls.{stateAfterVisit, visitOf}
 use Rattle.walking.specs.Private.State.{seenRead}
 use Rattle.walking.specs.declared.walk.Walk.{Walk}
 use Rattle.walking.proofs.Seeking.{visit-depth}
@@ -26,7 +26,7 @@ returns c =
     let q = c .before .before .before in
     let a = q .before .before .before .before .before .before .args in
     ap (λ (w : Walk). record { visited = seenRead (q .look .result); next = w }) (c .pass-item .ensures)
-    ∙ ap (λ (v : Visit). record { visited = v; next = past (a .self) v }) (q .look .ensures)
+    ∙ ap (λ (v : Visit). record { visited = v; next = stateAfterVisit (a .self) v }) (q .look .ensures)
 
 pub next-spec : {M : Type 1} → statement M
 next-spec = tie.close (tie.spec look-requires pass-item-requires returns)

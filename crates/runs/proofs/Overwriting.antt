@@ -1,0 +1,315 @@
+-- Two maps that differ only in a body that is reached: what is reached outside that body is the same, and so are the answers there.
+-- Assumes nothing.
+use Prim.Native.Nat.{ℕ, _-_, _≤_, _<_}
+use native.Mathlib.Omega.{arith}
+use borrow.Author.Tests.{le-ltb}
+use mathlib.Core.Path.{_≡_, refl, _∙_, sym, ap, subst}
+use mathlib.Core.Bool.{true, false}
+use mathlib.Core.Logic.{_⊎_, ⊎-elim}
+use mathlib.Core.List.{List, List·Memᴰ}
+use lib.ListN.{length}
+use Rattle.numbers.specs.Outcome.{Outcome, gives}
+use Rattle.numbers.specs.Bytes.{Same}
+use lib.Dec.{eqb, ltb}
+use Rattle.numbers.proofs.Outcomes.{Each, given, refused, each-of, each-within, each-pick, each-then}
+use Rattle.numbers.proofs.Meaning.{var-uint-bounded}
+use Rattle.numbers.proofs.Locality.{outside-local, looked-high}
+use Rattle.framing.specs.Spans.{Spans}
+use Rattle.framing.specs.Answers.{Annotated, readAnnotation, readValue}
+use Rattle.framing.proofs.Bounds.{Ordered, read-value-each}
+use Rattle.framing.proofs.Locality.{value-given-local, annotation-local}
+use Rattle.stepping.specs.Items.{Item, itemEnd}
+use Rattle.stepping.specs.Answers.{Tile, skip, tileAt, Found, found, after, Stepped, stepOf}
+use Rattle.stepping.specs.Runs.{cursor, Answers, Run, none, call}
+use Rattle.runs.specs.Reached.{ValueOf, a-value, a-field, itemStart, Part, the-stream, inner, Handed, left, ReachedBody, of-value, of-pad, In, Agree, Outside, NotOwner, EntryAt, nextAnnotation, AnnotationRun, none as no-more, call as one-more, Annotations}
+use Rattle.runs.specs.Theorems.{Overwriting}
+use Rattle.stepping.specs.declared.cursor.Cursor.{Cursor}
+use Rattle.stepping.specs.declared.cursor.Rules.{Rules}
+use Rattle.stepping.specs.declared.cursor.Rules.the-variants.{Stream}
+use Rattle.stepping.proofs.PadSkipping.{Skipping, at-end, at-pad, at-item, at-refusal, Finds, unfit, fit, finds, of-finds}
+use Rattle.values.specs.Scalars.{valueIn, isContainer, stepIn, scalarOf, readScalar, partOf, scalarPart}
+use Rattle.values.proofs.Reading.{value-in-slice}
+use Rattle.runs.proofs.Nest as nest
+use Rattle.runs.proofs.Nest.{Place, stay, on, Under, Clear, rest, head, Placed, Beside, left as to-left, right as to-right, inside, owner, holds}
+use Rattle.runs.proofs.Standing.{Standing, placeOf, valuePlace, closedPlace, order, one, To, called, ItemStands, item-stands, item-standing, led, pad-stands, nested, under}
+use Rattle.runs.proofs.TileLocality.{tile-local, tile-given-local}
+use Rattle.runs.proofs.ValueLocality.{ValueStands, value-stands, Afresh, afresh, scalar-local, scalar-part-local, container-read}
+
+-- ---- a run on the other map
+
+module _ (s s' : List ℕ) (b e : ℕ) (agree : Agree s s' (In b e)) (rules : Rules) (lo hi : ℕ) (ok : (p : ℕ) → To s rules hi lo p → Clear (Standing s) b e rules hi p) where
+  tile-over : (p : ℕ) → To s rules hi lo p → p < hi → tileAt rules s p hi ≡ tileAt rules s' p hi
+  tile-over p f l = go (ok p f)
+    where
+      go : Clear (Standing s) b e rules hi p → tileAt rules s p hi ≡ tileAt rules s' p hi
+      go (rest h) = tile-local s s' (agree .long) rules p hi l (λ i m n. agree .same i (h i m n))
+      go (head {x} t h) =
+          let w = order s rules hi p x t in
+          let q : x .body ≡ placeOf (t .tile) .body = ap (λ (y : Place). y .body) (t .place) in
+          t .is ∙ sym (tile-given-local s s' (agree .long) rules p hi (t .tile) (omega arith) (t .is) (λ i m n. agree .same i (h i m (omega arith))))
+
+  stand : (p : ℕ) (x : Tile) → p < hi → tileAt rules s p hi ≡ gives x → Standing s rules hi p (placeOf x)
+  stand p x l q = record { tile = x; before = l; is = q; place = refl }
+
+  skipping-over : {p : ℕ} {f : Found} → To s rules hi lo p → Skipping rules s hi p f → Skipping rules s' hi p f
+  skipping-over g at-end = at-end
+  skipping-over g (at-pad {at} {b = x} {e = y} l h d) =
+      at-pad l (sym (tile-over at g l) ∙ h) (skipping-over (nest.join (Standing s) g (on (stand at (skip x y) l h) stay)) d)
+  skipping-over g (at-item {at} l h) = at-item l (sym (tile-over at g l) ∙ h)
+  skipping-over g (at-refusal {at} l h) = at-refusal l (sym (tile-over at g l) ∙ h)
+
+  found-over : (at : ℕ) → To s rules hi lo at → found rules s (cursor at hi) ≡ found rules s' (cursor at hi)
+  found-over at g = go (finds rules s (cursor at hi))
+    where
+      go : {f : Found} → Finds rules s (cursor at hi) f → f ≡ found rules s' (cursor at hi)
+      go (unfit h) = of-finds (unfit (sym (outside-local s s' at hi (agree .long)) ∙ h))
+      go (fit l m w) = of-finds (fit l (omega (arith, agree .long)) (skipping-over g w))
+
+  cursor-over : (c : Cursor) → c .end ≡ hi → To s rules hi lo (c .at) → found rules s c ≡ found rules s' c
+  cursor-over c q g =
+      let h : cursor (c .at) hi ≡ c = ap (cursor (c .at)) (sym q) in
+      subst (λ (d : Cursor). found rules s d ≡ found rules s' d) h (found-over (c .at) g)
+
+  answers-over : (c : Cursor) (r : Stepped) → c .end ≡ hi → To s rules hi lo (c .at) → Answers rules s c r → Answers rules s' c r
+  unfolding stepOf
+  answers-over c r q g a = a ∙ ap (λ (f : Found). record { answer = f .answer; next = after c (f .answer) }) (cursor-over c q g)
+
+  on-to : (c d : Cursor) → c .end ≡ hi → To s rules hi lo (c .at) → d .end ≡ c .end → To s rules (c .end) (c .at) (d .at) → To s rules hi lo (d .at)
+  on-to c d q g h f = nest.join (Standing s) g (subst (λ (x : ℕ). To s rules x (c .at) (d .at)) q f)
+
+  run-over : {c : Cursor} {rs : List Stepped} → c .end ≡ hi → To s rules hi lo (c .at) → Run (Answers rules s) c rs → Run (Answers rules s') c rs
+  run-over q g none = none
+  run-over q g (call {c} {r} a run) =
+      let w = called s rules c r a in
+      call (answers-over c r q g a) (run-over (w .kept ∙ q) (on-to c (r .next) q g (w .kept) (w .to)) run)
+
+-- a run has one list of answers of each length
+alone : (rules : Rules) (s : List ℕ) {c : Cursor} {rs rs' : List Stepped} → Run (Answers rules s) c rs → Run (Answers rules s) c rs' → length rs ≡ length rs' → rs ≡ rs'
+alone rules s none none h = refl
+alone rules s none (call a run) h = absurd (omega arith)
+alone rules s (call a run) none h = absurd (omega arith)
+alone rules s (call {c} {r} {rs} a run) (call {r = r'} {rs = rs'} a' run') h =
+    let q : r ≡ r' = a ∙ sym a' in
+    let k : rs ≡ rs' = alone rules s run (subst (λ (x : Stepped). Run (Answers rules s) (x .next) rs') (sym q) run') (omega arith) in
+    cc
+
+-- ---- annotation steps
+
+annotation-grows : (s : List ℕ) (at end : ℕ) → Each (λ x. at ≤ nextAnnotation at (gives x)) (readAnnotation s at end)
+unfolding readAnnotation
+annotation-grows s at end =
+    each-within s at end (λ _ _.
+    each-pick (eqb at end) (λ _. given (omega arith)) (λ _. each-then (var-uint-bounded s at end) (λ u b. given (omega (arith, b .begins)))))
+
+grown : {at : ℕ} {o : Outcome Annotated} → Each (λ x. at ≤ nextAnnotation at (gives x)) o → at ≤ nextAnnotation at o
+grown (given h) = h
+grown refused = omega arith
+
+-- on two maps with the same annotation bytes the steps have the same answers
+annotations-alone : (s s' : List ℕ) (from end : ℕ) → length s ≡ length s' → Same s s' from end → {at : ℕ} {rs rs' : List (Outcome Annotated)} → from ≤ at → AnnotationRun (Annotations s end) at rs → AnnotationRun (Annotations s' end) at rs' → length rs ≡ length rs' → rs ≡ rs'
+annotations-alone s s' from end l same h no-more no-more n = refl
+annotations-alone s s' from end l same h no-more (one-more a run) n = absurd (omega arith)
+annotations-alone s s' from end l same h (one-more a run) no-more n = absurd (omega arith)
+annotations-alone s s' from end l same h (one-more {at} {r} {rs} a run) (one-more {r = r'} {rs = rs'} a' run') n =
+    let x : readAnnotation s at end ≡ readAnnotation s' at end = annotation-local s s' l at end (λ i c d. same i (omega arith) (omega (arith, looked-high s at end))) in
+    let q : r ≡ r' = a ∙ x ∙ sym a' in
+    let g : at ≤ nextAnnotation at r = subst (λ (o : Outcome Annotated). at ≤ nextAnnotation at o) (sym a) (grown (annotation-grows s at end)) in
+    let k : rs ≡ rs' = annotations-alone s s' from end l same (omega arith) run (subst (λ (o : Outcome Annotated). AnnotationRun (Annotations s' end) (nextAnnotation at o) rs') (sym q) run') (omega arith) in
+    cc
+
+abbrev Rule : List ℕ → Rules → Cursor → Stepped → Type 0
+Rule s rules = Answers rules s
+
+-- ---- what is reached on the one map is reached on the other
+
+module _ (s s' : List ℕ) (lo₀ hi₀ b e : ℕ) (body : ReachedBody s (Rule s) lo₀ hi₀ b e) (agree : Agree s s' (In b e)) where
+  -- the tile of the body
+  abbrev owned : ℕ
+  owned = under s body .0
+
+  owner-below : Under (Standing s) owned b e Stream lo₀ hi₀
+  owner-below = under s body .1
+
+  low : owned < b
+  low = nest.within-part (Standing s) (order s) (one s) owner-below .1
+
+  lies : {rules : Rules} {lo hi : ℕ} → Part (Rule s) lo₀ hi₀ rules lo hi → Placed (Standing s) owned b e rules lo hi
+  lies pt = nest.placed (Standing s) (order s) (one s) owner-below (nested s pt)
+
+  clear : {rules : Rules} {lo hi : ℕ} → Part (Rule s) lo₀ hi₀ rules lo hi → Outside b e lo hi → (p : ℕ) → To s rules hi lo p → Clear (Standing s) b e rules hi p
+  clear pt out p f = nest.clear (Standing s) (order s) (one s) low (lies pt) out f
+
+  over : {rules : Rules} {lo hi : ℕ} → Part (Rule s) lo₀ hi₀ rules lo hi → Outside b e lo hi → {rs : List Stepped} → Run (Answers rules s) (cursor lo hi) rs → Run (Answers rules s') (cursor lo hi) rs
+  over {rules} {lo} {hi} pt out run = run-over s s' b e agree rules lo hi (clear pt out) refl stay run
+
+  -- a part that holds one outside the body is outside it
+  holder : (rules : Rules) (lo hi : ℕ) {i : Item} {v : Spans} → ValueOf i v → (w : ItemStands s rules (cursor lo hi) i) → Outside b e (v .body) (v .end) → Outside b e lo hi
+  holder rules lo hi {i} {v} k w out z =
+      let o = order s rules hi (w .place) (valuePlace v) (item-standing s rules (cursor lo hi) k w) in
+      let a = nest.ahead (Standing s) (order s) (one s) (w .to) in
+      out (omega arith)
+
+  reaches : {rules : Rules} {lo hi : ℕ} → Part (Rule s) lo₀ hi₀ rules lo hi → Outside b e lo hi → Part (Rule s') lo₀ hi₀ rules lo hi
+  reaches the-stream out = the-stream
+  reaches (inner {rules} {lo} {hi} pt run m k o) out =
+      let far = holder rules lo hi k (item-stands s rules run m) out in
+      inner (reaches pt far) (over pt far run) m k o
+
+  hands : {rules : Rules} {lo hi : ℕ} {i : Item} → Handed (Rule s) lo₀ hi₀ rules lo hi i → Outside b e lo hi → Handed (Rule s') lo₀ hi₀ rules lo hi i
+  hands h out = record { part = reaches (h .part) out; calls = h .calls; run = over (h .part) out (h .run); among = h .among }
+
+  -- ---- a value that is handed out, and does not lie in the body
+
+  module _ {rules : Rules} {lo hi : ℕ} {i : Item} {v : Spans} (h : Handed (Rule s) lo₀ hi₀ rules lo hi i) (k : ValueOf i v) (out : Outside b e (itemStart i) (itemEnd i)) where
+    it : ItemStands s rules (cursor lo hi) i
+    it = item-stands s rules (h .run) (h .among)
+
+    standing : Standing s rules hi (it .place) (valuePlace v)
+    standing = item-standing s rules (cursor lo hi) k it
+
+    there : ValueStands s hi (it .place) i v
+    there = value-stands rules s (it .place) hi k (it .is)
+
+    places : (it .place < v .body) × (v .body ≤ v .end) × (v .end ≤ hi)
+    places = order s rules hi (it .place) (valuePlace v) standing
+
+    ends-with : {j : Item} {u : Spans} → ValueOf j u → itemEnd j ≡ u .end
+    ends-with a-value = refl
+    ends-with a-field = refl
+
+    pub part-out : Outside b e lo hi
+    part-out z =
+        let a = nest.ahead (Standing s) (order s) (one s) (it .to) in
+        let w = places in
+        out (omega (arith, there .starts), omega (arith, ends-with k))
+
+    header-clear : (j : ℕ) → it .place ≤ j → j < v .body → In b e j → ⊥
+    header-clear j m n = go (clear (h .part) part-out (it .place) (it .to))
+      where
+        w : (it .place < v .body) × (v .body ≤ v .end) × (v .end ≤ hi)
+        w = places
+
+        go : Clear (Standing s) b e rules hi (it .place) → In b e j → ⊥
+        go (rest f) = f j m (omega (arith, w .1, w .2))
+        go (head {x} t f) =
+            let q : x .body ≡ v .body = ap (λ (y : Place). y .body) (one s rules hi (it .place) x (valuePlace v) t standing) in
+            f j m (omega arith)
+
+    header-same : Same s s' (it .place) (v .body)
+    header-same j m n = agree .same j (header-clear j m n)
+
+    in-order : Ordered (v .start) hi v
+    in-order = each-of (read-value-each s (v .start) hi) (there .read)
+
+    pub annotations-same : (rs rs' : List (Outcome Annotated)) → length rs ≡ length rs' → AnnotationRun (Annotations s (v .descriptor)) (v .annotations) rs → AnnotationRun (Annotations s' (v .descriptor)) (v .annotations) rs' → rs ≡ rs'
+    annotations-same rs rs' n run run' =
+        annotations-alone s s' (v .annotations) (v .descriptor) (agree .long) (λ j m l. header-same j (omega (arith, there .low, in-order .annotated)) (omega (arith, in-order .bodied))) (omega arith) run run' n
+
+    -- framed afresh
+    module _ (at : ℕ) (entry : EntryAt v at) where
+      again : Afresh s hi at v
+      again = afresh s hi at v (there .read) entry
+
+      inner-order : Ordered at hi (again .value)
+      inner-order = each-of (read-value-each s at hi) (again .read)
+
+      again-over : readValue s' at hi ≡ gives (again .value)
+      again-over =
+          value-given-local s s' (agree .long) at hi (again .value)
+          (record {
+            wrapper = λ j m n. header-same j (omega (arith, there .low, again .low)) (omega (arith, inner-order .described, inner-order .bodied, again .body));
+            value = λ j m n. header-same j (omega (arith, there .low, again .low, inner-order .annotated, inner-order .described)) (omega (arith, again .body));
+          })
+          (again .read)
+          .0
+
+      past-start : ltb at lo ≡ false
+      past-start =
+          le-ltb at lo (omega (arith, nest.ahead (Standing s) (order s) (one s) (it .to), there .low, again .low))
+
+      pub enters-same : stepIn s lo hi at ≡ stepIn s' lo hi at
+      unfolding stepIn valueIn
+      enters-same = rw (past-start, again .read, again-over)
+
+      -- its body, where it is beside the overwritten one
+      body-same : ((j : ℕ) → v .body ≤ j → j < v .end → In b e j → ⊥) → Same s s' (again .value .body) (again .value .end)
+      body-same far j m n = agree .same j (far j (omega (arith, again .body)) (omega (arith, again .end)))
+
+      as-container : isContainer v ≡ true → isContainer (again .value) ≡ true
+      unfolding isContainer
+      as-container c = rw (again .byte) c
+
+      pub reads-same : NotOwner b e v → (readScalar s lo hi at ≡ readScalar s' lo hi at) × (scalarPart s lo hi at ≡ scalarPart s' lo hi at)
+      unfolding readScalar valueIn scalarPart
+      reads-same other =
+          rw (past-start, again .read, again-over) (go (nest.tile-placed (Standing s) (order s) (one s) (lies (h .part)) (it .to) standing))
+        where
+          u : Spans
+          u = again .value
+
+          w : (it .place < v .body) × (v .body ≤ v .end) × (v .end ≤ hi)
+          w = places
+
+          beside : ((j : ℕ) → v .body ≤ j → j < v .end → In b e j → ⊥) → (scalarOf s u ≡ scalarOf s' u) × (partOf s (scalarOf s u) ≡ partOf s' (scalarOf s' u))
+          beside far =
+              (scalar-local s s' (agree .long) u (body-same far), scalar-part-local s s' (agree .long) u (each-of (value-in-slice s at hi) (again .read)) (body-same far))
+
+          go : Beside (Standing s) owned b e (it .place) (valuePlace v) → (scalarOf s u ≡ scalarOf s' u) × (partOf s (scalarOf s u) ≡ partOf s' (scalarOf s' u))
+          go (to-left l) = beside (λ j m n z. omega (arith, low))
+          go (to-right l) = beside (λ j m n z. omega (arith, w .0))
+          go (inside l r) = absurd (out (omega (arith, there .starts), omega (arith, ends-with k)))
+          go (owner l r) = absurd (other (l, r))
+          go (holds o q) = rw (container-read s u (as-container o), container-read s' u (as-container o)) (refl, refl)
+
+-- ---- and back
+
+-- the body is reached on the other map too
+body-over : (s s' : List ℕ) {lo₀ hi₀ b e : ℕ} → ReachedBody s (Rule s) lo₀ hi₀ b e → Agree s s' (In b e) → ReachedBody s' (Rule s') lo₀ hi₀ b e
+body-over s s' {lo₀} {hi₀} (of-value {rules} {lo} {hi} {i} {v} h k) agree =
+    let body : ReachedBody s (Rule s) lo₀ hi₀ (v .body) (v .end) = of-value h k in
+    let w = item-stands s rules (h .run) (h .among) in
+    let o = order s rules hi (w .place) (valuePlace v) (item-standing s rules (cursor lo hi) k w) in
+    let a = nest.ahead (Standing s) (order s) (one s) (w .to) in
+    of-value (hands s s' lo₀ hi₀ (v .body) (v .end) body agree h (λ z. omega arith)) k
+body-over s s' {lo₀} {hi₀} (of-pad {rules} {lo} {hi} {rs} {p} pt run m) agree =
+    let body : ReachedBody s (Rule s) lo₀ hi₀ (p .body) (p .end) = of-pad pt run m in
+    let c : Cursor = left (cursor lo hi) rs in
+    let w = led s rules run in
+    let z = pad-stands s rules c m in
+    let o = order s rules (c .end) (p .start) (closedPlace (p .body) (p .end)) (record { tile = skip (p .body) (p .end); before = z .before; is = z .is; place = refl }) in
+    let a = nest.ahead (Standing s) (order s) (one s) (w .1) in
+    let a' = nest.ahead (Standing s) (order s) (one s) (z .to) in
+    let out : Outside (p .body) (p .end) lo hi = λ y. omega arith in
+    of-pad (reaches s s' lo₀ hi₀ (p .body) (p .end) body agree pt out) (over s s' lo₀ hi₀ (p .body) (p .end) body agree pt out run)
+    (subst (λ (f : Found). List·Memᴰ p (f .pads)) (cursor-over s s' (p .body) (p .end) agree rules lo hi (clear s s' lo₀ hi₀ (p .body) (p .end) body agree pt out) c (w .0) (w .1)) m)
+
+swapped : {s s' : List ℕ} {Changed : ℕ → Type 0} → Agree s s' Changed → Agree s' s Changed
+swapped h = record { long = sym (h .long); same = λ i out. sym (h .same i out) }
+
+pub overwriting : Overwriting
+overwriting s s' lo₀ hi₀ b e body agree =
+    let body' : ReachedBody s' (Rule s') lo₀ hi₀ b e = body-over s s' body agree in
+    let agree' : Agree s' s (In b e) = swapped agree in
+    record {
+      steps = λ rules lo hi pt out rs rs' n run run'.
+          ⊎-elim (λ p. alone rules s' (over s s' lo₀ hi₀ b e body agree p out run) run' n)
+          (λ p. alone rules s run (over s' s lo₀ hi₀ b e body' agree' p out run') n) pt;
+      annotations = λ rules lo hi i v h k out rs rs' n run run'.
+          ⊎-elim (λ x. annotations-same s s' lo₀ hi₀ b e body agree x k out rs rs' n run run')
+          (λ x. sym (annotations-same s' s lo₀ hi₀ b e body' agree' x k out rs' rs (sym n) run' run)) h;
+      enters = λ rules lo hi i v h k out at entry r r' a a'.
+          a
+          ∙ ⊎-elim (λ x. enters-same s s' lo₀ hi₀ b e body agree x k out at entry)
+          (λ x. sym (enters-same s' s lo₀ hi₀ b e body' agree' x k out at entry)) h
+          ∙ sym a';
+      reads = λ rules lo hi i v h k out other at entry r r' a a'.
+          a
+          ∙ ⊎-elim (λ x. reads-same s s' lo₀ hi₀ b e body agree x k out at entry other .0)
+          (λ x. sym (reads-same s' s lo₀ hi₀ b e body' agree' x k out at entry other .0)) h
+          ∙ sym a';
+      parts = λ rules lo hi i v h k out other at entry r r' a a'.
+          a
+          ∙ ⊎-elim (λ x. reads-same s s' lo₀ hi₀ b e body agree x k out at entry other .1)
+          (λ x. sym (reads-same s' s lo₀ hi₀ b e body' agree' x k out at entry other .1)) h
+          ∙ sym a';
+    }
