@@ -3,7 +3,7 @@
 use Prim.Native.Nat.{ℕ, zero, suc, _+_, _-_, _*_, _^_, _≤_, _<_}
 use native.Mathlib.Omega.{arith}
 use native.Mathlib.Numerals.{add-one}
-use native.Mathlib.Nat.{eq-or-lt-of-le, pow-le-pow-right, mul-le-mul-right}
+use native.Mathlib.Nat.{eq-or-lt-of-le, lt-of-not-le, le-of-suc-le-suc, le-antisymm, pow-le-pow-right, mul-le-mul-right}
 use mathlib.Core.Path.{_≡_, refl, _∙_, sym, ap}
 use mathlib.Core.Logic.{⊎-elim}
 use mathlib.Core.List.{List, [], _∷_}
@@ -52,13 +52,14 @@ uint-first b bs h e =
 pub record Begins (s : List ℕ) (at end r : ℕ) : Type 0 where
   pub low : at ≤ r
   pub high : r ≤ end
+  pub zeros : (i : ℕ) → at ≤ i → i < r → getD s i 0 ≡ 0
   pub here : r < end → getD s r 0 ≡ 0 → ⊥
   pub worth : uintOf (part s r end) ≡ uintOf (part s at end)
 
 begins-among : (s : List ℕ) (n at end : ℕ) → at + n ≡ end → end ≤ length s → Begins s at end (nonzeroAmong s at n)
 unfolding nonzeroAmong
 begins-among s zero at end e k =
-    record { low = omega arith; high = omega arith; here = λ h. absurd (omega arith); worth = refl }
+    record { low = omega arith; high = omega arith; zeros = λ i l h. absurd (omega arith); here = λ h. absurd (omega arith); worth = refl }
 begins-among s (suc n) at end e k =
     by-test (Begins s at end) (eqb (getD s at 0) 0)
     (λ z.
@@ -66,6 +67,8 @@ begins-among s (suc n) at end e k =
     record {
       low = omega (arith, r .low);
       high = r .high;
+      zeros = λ i l h.
+          ⊎-elim (λ (q : at ≡ i). rw (← q) (eqb-true (getD s at 0) 0 z)) (λ (q : at < i). r .zeros i q h) (eq-or-lt-of-le l);
       here = r .here;
       worth =
           r .worth
@@ -73,7 +76,19 @@ begins-among s (suc n) at end e k =
           (ap uintOf (part-cons s at end (omega arith) k)
           ∙ rw (eqb-true (getD s at 0) 0 z, add-one at) (uint-zero (part s (suc at) end)));
     })
-    (λ z. record { low = omega arith; high = omega arith; here = λ _. eqb-false (getD s at 0) 0 z; worth = refl })
+    (λ z.
+    record {
+      low = omega arith;
+      high = omega arith;
+      zeros = λ i l h. absurd (omega arith);
+      here = λ _. eqb-false (getD s at 0) 0 z;
+      worth = refl;
+    })
+
+-- there is one such place
+begins-le : {s : List ℕ} {at end r q : ℕ} → Begins s at end r → Begins s at end q → r ≤ q
+begins-le {r = r} {q} b c =
+    le-of-suc-le-suc (lt-of-not-le (λ (l : q < r). c .here (omega (arith, b .high)) (b .zeros q (c .low) l)))
 
 module _ (s : List ℕ) (at end : ℕ) (h : at ≤ end) (k : end ≤ length s) where
   pub significant-inside : significantFrom s at end ≡ nonzeroAmong s at (end - at)
@@ -82,6 +97,9 @@ module _ (s : List ℕ) (at end : ℕ) (h : at ≤ end) (k : end ≤ length s) w
 
   pub significant-begins : Begins s at end (significantFrom s at end)
   significant-begins = rw significant-inside (begins-among s (end - at) at end (omega arith) k)
+
+  pub significant-one : {r : ℕ} → Begins s at end r → significantFrom s at end ≡ r
+  significant-one b = le-antisymm (begins-le significant-begins b) (begins-le b significant-begins)
 
   -- it is the part's end exactly where the magnitude is zero
   pub significant-end : significantFrom s at end ≡ end → uintOf (part s at end) ≡ 0

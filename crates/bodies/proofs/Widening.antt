@@ -6,16 +6,16 @@ use native.Mathlib.Omega.{arith}
 use native.Mathlib.Nat.{zero-add, add-zero, eq-zero-or-pos, add-assoc, le-of-suc-le-suc, mul-assoc, mul-right-comm, mul-div-cancel, mul-le-mul-right, le-antisymm, lt-of-not-le, lt-of-lt-of-le, lt-irrefl, le-trans, mod-eq-of-lt}
 use mathlib.Core.Path.{_≡_, refl, _∙_, sym, ap, subst}
 use mathlib.Core.Logic.{⊎-elim}
-use mathlib.Core.Bool.{Bool, true, false, true≢false, cond}
-use lib.Dec.{leb}
+use mathlib.Core.Bool.{Bool, true, false, true≢false, cond, not}
+use lib.Dec.{T, leb}
 use lib.Pow.{pow-add, pow-pos, pow-mono, shl-lt}
 use lib.Count.{leadingZeros, leading-top}
 use lib.Ieee.{Float, nan, inf, fin, Format, binary32, binary64, up, down, size, odd, isNan, hid, ones, top, ofFields, ofBits, toBits, nanBits}
 use lib.Ieee.Digits.{size-lt, size-le}
 use lib.Ieee.Exact.{HasValue, odd-sign}
 use lib.Ieee.Fits.{down-pos, fits-widens}
-use lib.Ieee.Bits.{ofBits-toBits, ofBits-fits, toBits-lt, nanBits-is, nanBits-above}
-use borrow.Author.Tests.{ne-eqb, le-leb, lt-leb, lt-ltb}
+use lib.Ieee.Bits.{ofBits-toBits, toBits-ofBits, ofBits-fits, toBits-lt, nanBits-is, nanBits-above}
+use borrow.Author.Tests.{ne-eqb, le-leb, lt-leb, leb-true, leb-false, lt-ltb}
 use Rattle.numbers.proofs.Outcomes.{by-test}
 use Rattle.bodies.specs.Widen.{quietNan, widenOf, WidenMeans, WidenFits, NanKept, NansKept}
 use Rattle.bodies.specs.Private.Fields.{signOf, specialOf, finiteOf}
@@ -225,3 +225,23 @@ widen-fits b =
 pub nans-kept : NansKept
 unfolding widenOf
 nans-kept b n = rw n (quiet-told b)
+
+-- a NaN's fields are all of its pattern
+nan-joined : (b w : ℕ) → w < 2 ^ 64 → NanKept b w → quietNan b ≡ w
+unfolding quietNan
+nan-joined b w h k = by-sign (leb (top binary32) b) (k .sign)
+  where
+    digits : w % top binary64 ≡ quieted false (b % 2 ^ 22)
+    digits = omega (arith, k .exponent, k .quiet, k .fraction)
+
+    by-sign : (s : Bool) → leb (top binary64) w ≡ s → quieted s (b % 2 ^ 22) ≡ w
+    by-sign true e = omega (arith, digits, leb-true (top binary64) w e)
+    by-sign false e = omega (arith, digits, leb-false (top binary64) w e)
+
+-- there is one such pattern: a number has one, and a NaN's is what its kept fields make
+pub widen-one : (b w : ℕ) → ofBits binary64 w ≡ ofBits binary32 b → w < 2 ^ 64 → (nanBits binary32 b ≡ true → NanKept b w) → widenOf b ≡ w
+unfolding widenOf
+widen-one b w e h k =
+    by-test (λ x. x ≡ w) (nanBits binary32 b) (λ n. nan-joined b w h (k n)) (λ n.
+    let m : isNan (ofBits binary64 w) ≡ false = ap isNan e ∙ sym (nanBits-is binary32 b) ∙ n in
+    ap (toBits binary64) (sym e) ∙ toBits-ofBits binary64 w h (subst (λ (t : Bool). T (not t)) (sym m) tt))

@@ -159,7 +159,8 @@ fn locate_inner_value(
     }
 }
 
-// Where the value of the wrapper with this descriptor at `at` stands.
+// Where the value of the wrapper with this descriptor at `at` stands: ion-rust's `read_annotated_value` up to the value's length, which `read_located_value` reads
+// with or without a wrapper.
 fn locate_annotated_value(s: &[u8], at: usize, end: usize, descriptor: TypeDescriptor) -> Located
     requires { ⌜ (at < end) × (end ≤ length (now s)) ⌝ }
     ensures { λ r. ⌜ locatedRead r ≡ locationInWrapper (now (s .entry)) at end descriptor ⌝ }

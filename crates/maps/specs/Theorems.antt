@@ -16,4 +16,6 @@ answerOf r = r .answer
 -- The answers of an export of many steps, on a part that starts at or before the position and by a kind that there is, are the answers of a run of the theorems
 -- on runs: as many calls of one step, each with the cursor that the call before left.
 abbrev pub RunsOfCalls : Type 0
-RunsOfCalls = (s : List ℕ) (start end position kind n : ℕ) → start ≤ position → kind ≤ 2 → (rs : List Stepped) × Run (Answers (rulesOf kind) s) (cursor position end) rs × (map answerOf rs ≡ exportedRun n s start end position kind)
+RunsOfCalls =
+    (s : List ℕ) (start end position kind n : ℕ) → start ≤ position → kind ≤ 2
+    → (rs : List Stepped) × Run (Answers (rulesOf kind) s) (cursor position end) rs × (map answerOf rs ≡ exportedRun n s start end position kind)

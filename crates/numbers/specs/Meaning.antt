@@ -9,15 +9,15 @@ use lib.ListN.{length, getD}
 use Rattle.numbers.specs.Format.{NumberAt, ofDigits, intNegative, intMagnitude}
 use Rattle.numbers.specs.Outcome.{Outcome, gives, refuses}
 use Rattle.numbers.specs.Bytes.{part}
-use Rattle.numbers.specs.Answers.{Unsigned, Signed, Fixed, unsigned, signed, mostBytes, varUInt, varInt, int}
+use Rattle.numbers.specs.Answers.{Unsigned, Signed, Fixed, unsigned, signed, varUInt, varInt, int}
 
 -- what the bytes are under each answer: at most nine of them, which the answer is made of; a part outside the slice; no last byte in the part; or
--- more than nine bytes
+-- more than nine bytes. The limit is a number here and no name, so that another one in the definitions is refused.
 pub data NumberMeaning {A : Type 0} (cut : ℕ) (answer : ℕ → A) (s : List ℕ) (at end : ℕ) : Outcome A → Type 0 where
-  reads : {next : ℕ} → NumberAt s at end next → next ≤ at + mostBytes → NumberMeaning cut answer s at end (gives (answer next))
+  reads : {next : ℕ} → NumberAt s at end next → next ≤ at + 9 → NumberMeaning cut answer s at end (gives (answer next))
   outside : (end < at) ⊎ (length s < end) → NumberMeaning cut answer s at end (refuses 50 0)
   cut-short : at ≤ end → end ≤ length s → ((i : ℕ) → at ≤ i → i < end → getD s i 0 < 128) → NumberMeaning cut answer s at end (refuses cut end)
-  too-long : {next : ℕ} → NumberAt s at end next → at + mostBytes < next → NumberMeaning cut answer s at end (refuses 20 at)
+  too-long : {next : ℕ} → NumberAt s at end next → at + 9 < next → NumberMeaning cut answer s at end (refuses 20 at)
 
 -- every answer of a VarUInt's reading and of a VarInt's means this
 abbrev pub VarUIntSound : Type 0
@@ -28,10 +28,10 @@ VarIntSound = (s : List ℕ) (at end : ℕ) → NumberMeaning 4 (signed s at) s 
 
 -- such bytes, nine at most, are read, and nothing else is answered
 abbrev pub VarUIntComplete : Type 0
-VarUIntComplete = (s : List ℕ) (at end next : ℕ) → NumberAt s at end next → next ≤ at + mostBytes → varUInt s at end ≡ gives (unsigned s at next)
+VarUIntComplete = (s : List ℕ) (at end next : ℕ) → NumberAt s at end next → next ≤ at + 9 → varUInt s at end ≡ gives (unsigned s at next)
 
 abbrev pub VarIntComplete : Type 0
-VarIntComplete = (s : List ℕ) (at end next : ℕ) → NumberAt s at end next → next ≤ at + mostBytes → varInt s at end ≡ gives (signed s at next)
+VarIntComplete = (s : List ℕ) (at end next : ℕ) → NumberAt s at end next → next ≤ at + 9 → varInt s at end ≡ gives (signed s at next)
 
 -- a VarUInt is below 2^63, and a VarInt's magnitude below 2^62
 abbrev pub VarUIntSmall : Type 0

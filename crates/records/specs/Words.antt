@@ -9,7 +9,8 @@ use Rattle.framing.specs.Spans.{Spans}
 use Rattle.framing.specs.Answers.{Annotated, ident, finished}
 use Rattle.stepping.specs.Items.{Item, finish, marker, value, field}
 use Rattle.stepping.specs.Kinds.{partKind}
-use Rattle.values.specs.Scalars.{Opened, opened, Scalar, null, bool, int as whole, float, decimal, timestamp, symbol, string, clob, blob, container, ReadValue, spanOf}
+use Rattle.values.specs.Scalars.{Opened, opened, Scalar, ReadValue, spanOf}
+use Rattle.values.specs.Scalars.{null, bool, int as whole, float, decimal, timestamp, symbol, string, clob, blob, container}
 
 -- ---- refusals: the same words for every kind
 

@@ -1,4 +1,5 @@
--- The machine's own answers of the annotation step, stepping in and the scalar reading, each the one that the rules define: from the functions' theorems.
+-- The machine's own answers of the annotation step, stepping in and the scalar reading, each the one that the rules define, and that each call ends: from the
+-- functions' theorems.
 -- Assumes nothing.
 use Prim.Native.Nat.{ℕ}
 use mathlib.Core.Path.{_≡_, refl, _∙_, sym, ap}
@@ -41,6 +42,7 @@ use Rattle.values.proofs.value.read.Symbol as reading-symbol
 use Rattle.values.proofs.value.read.Met as reading-met
 use Rattle.runs.specs.Program.{Annotates, Enters, Reads}
 use Rattle.runs.proofs.Machine as machine
+use Rattle.runs.proofs.Machine.{Answered}
 use Rattle.runs.proofs.Values.{num, bit, parts, nth, choose}
 
 field : ℕ → Val → Val
@@ -189,20 +191,26 @@ scalar-read Container = refl
 scalar-read (ScalarRefused e) = refl
 
 module _ {M : Type 1} (𝓤 : URA M) (H : Heap 𝓤) (𝓜 : Model 𝓤 H) (𝓖 : GhostRules 𝓤 H) (κs : Lfts 1) where
+  pub annotation-answers : (s : RefT (List ℕ)) (at end : ℕ) → Answered 𝓤 H 𝓜 𝓖 annotation.signature annotation-symbol.routine κs tt annotation-laws.lowers (s, (at, (end, tt))) (λ x. annotationRead x ≡ readAnnotation (now s) at end)
+  annotation-answers s at end =
+      machine.answered 𝓤 H 𝓜 𝓖 annotation.ended annotation-symbol.routine (annotation.clauses 𝓤 H (𝓖 .A) (𝓜 .mem) (real 𝓤 H 𝓜 .run)) (annotation-met.met 𝓤 H 𝓜 𝓖 (real 𝓤 H 𝓜)) κs tt annotation-laws.lowers annotationRead annotation-of annotation-made annotation-read annotation-one
+      (s, (at, (end, tt))) tt (readAnnotation (now s) at end) (id⊢ 𝓤 (emp 𝓤)) (λ x ws. id⊢ 𝓤 (fact 𝓤 (annotationRead x ≡ readAnnotation (now s) at end)))
+
+  pub entering-answers : (s : RefT (List ℕ)) (lo hi at : ℕ) → Answered 𝓤 H 𝓜 𝓖 entering.signature entering-symbol.routine κs tt body-laws.lowers (s, (lo, (hi, (at, tt)))) (λ x. bodyRead x ≡ stepIn (now s) lo hi at)
+  entering-answers s lo hi at =
+      machine.answered 𝓤 H 𝓜 𝓖 entering.ended entering-symbol.routine (entering.clauses 𝓤 H (𝓖 .A) (𝓜 .mem) (real 𝓤 H 𝓜 .run)) (entering-met.met 𝓤 H 𝓜 𝓖 (real 𝓤 H 𝓜)) κs tt body-laws.lowers bodyRead body-of body-made body-read body-one
+      (s, (lo, (hi, (at, tt)))) tt (stepIn (now s) lo hi at) (id⊢ 𝓤 (emp 𝓤)) (λ x ws. id⊢ 𝓤 (fact 𝓤 (bodyRead x ≡ stepIn (now s) lo hi at)))
+
+  pub reading-answers : (s : RefT (List ℕ)) (lo hi at : ℕ) → Answered 𝓤 H 𝓜 𝓖 reading.signature reading-symbol.routine κs tt scalar-laws.lowers (s, (lo, (hi, (at, tt)))) (λ x. scalarRead x ≡ readScalar (now s) lo hi at)
+  reading-answers s lo hi at =
+      machine.answered 𝓤 H 𝓜 𝓖 reading.ended reading-symbol.routine (reading.clauses 𝓤 H (𝓖 .A) (𝓜 .mem) (real 𝓤 H 𝓜 .run)) (reading-met.met 𝓤 H 𝓜 𝓖 (real 𝓤 H 𝓜)) κs tt scalar-laws.lowers scalarRead scalar-of scalar-made scalar-read scalar-one
+      (s, (lo, (hi, (at, tt)))) tt (readScalar (now s) lo hi at) (id⊢ 𝓤 (emp 𝓤)) (λ x ws. id⊢ 𝓤 (fact 𝓤 (scalarRead x ≡ readScalar (now s) lo hi at)))
+
   pub annotates : (s : RefT (List ℕ)) (end at : ℕ) (o : Outcome Annotated) → Annotates 𝓤 H 𝓜 𝓖 κs s end at o → o ≡ readAnnotation (now s) at end
-  annotates s end at o p =
-      sym (p .2)
-      ∙ machine.read-as 𝓤 H 𝓜 𝓖 annotation.ended annotation-symbol.routine (annotation.clauses 𝓤 H (𝓖 .A) (𝓜 .mem) (real 𝓤 H 𝓜 .run)) (annotation-met.met 𝓤 H 𝓜 𝓖 (real 𝓤 H 𝓜)) κs tt annotation-laws.lowers annotationRead annotation-of annotation-made annotation-read annotation-one
-      (s, (at, (end, tt))) tt (readAnnotation (now s) at end) (id⊢ 𝓤 (emp 𝓤)) (λ x ws. id⊢ 𝓤 (fact 𝓤 (annotationRead x ≡ readAnnotation (now s) at end))) (p .0) (p .1)
+  annotates s end at o p = sym (p .2) ∙ annotation-answers s at end .returned (p .0) (p .1)
 
   pub enters : (s : RefT (List ℕ)) (lo hi at : ℕ) (o : Outcome Opened) → Enters 𝓤 H 𝓜 𝓖 κs s lo hi at o → o ≡ stepIn (now s) lo hi at
-  enters s lo hi at o p =
-      sym (p .2)
-      ∙ machine.read-as 𝓤 H 𝓜 𝓖 entering.ended entering-symbol.routine (entering.clauses 𝓤 H (𝓖 .A) (𝓜 .mem) (real 𝓤 H 𝓜 .run)) (entering-met.met 𝓤 H 𝓜 𝓖 (real 𝓤 H 𝓜)) κs tt body-laws.lowers bodyRead body-of body-made body-read body-one
-      (s, (lo, (hi, (at, tt)))) tt (stepIn (now s) lo hi at) (id⊢ 𝓤 (emp 𝓤)) (λ x ws. id⊢ 𝓤 (fact 𝓤 (bodyRead x ≡ stepIn (now s) lo hi at))) (p .0) (p .1)
+  enters s lo hi at o p = sym (p .2) ∙ entering-answers s lo hi at .returned (p .0) (p .1)
 
   pub reads : (s : RefT (List ℕ)) (lo hi at : ℕ) (o : Outcome Scalar) → Reads 𝓤 H 𝓜 𝓖 κs s lo hi at o → o ≡ readScalar (now s) lo hi at
-  reads s lo hi at o p =
-      sym (p .2)
-      ∙ machine.read-as 𝓤 H 𝓜 𝓖 reading.ended reading-symbol.routine (reading.clauses 𝓤 H (𝓖 .A) (𝓜 .mem) (real 𝓤 H 𝓜 .run)) (reading-met.met 𝓤 H 𝓜 𝓖 (real 𝓤 H 𝓜)) κs tt scalar-laws.lowers scalarRead scalar-of scalar-made scalar-read scalar-one
-      (s, (lo, (hi, (at, tt)))) tt (readScalar (now s) lo hi at) (id⊢ 𝓤 (emp 𝓤)) (λ x ws. id⊢ 𝓤 (fact 𝓤 (scalarRead x ≡ readScalar (now s) lo hi at))) (p .0) (p .1)
+  reads s lo hi at o p = sym (p .2) ∙ reading-answers s lo hi at .returned (p .0) (p .1)

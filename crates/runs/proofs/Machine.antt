@@ -27,7 +27,7 @@ use denote.Triple.Clauses.{Ended, Lasts, atExit, Clauses, closing}
 use denote.Ask.Bracket.{Bracket, bracketOf, told-out, beside}
 use denote.Ask.Computes.{of-spec}
 use denote.Ask.Run.{routine-mono}
-use Rattle.runs.specs.Machine.{Passed, Returned}
+use Rattle.runs.specs.Machine.{Passed, Returned, Ends}
 
 first : List Val → Val
 first [] = vunit
@@ -69,15 +69,25 @@ module _ {M : Type 1} (𝓤 : URA M) (H : Heap 𝓤) (𝓜 : Model 𝓤 H) (𝓖
         ∥∥₁-elim (returns (x .0) (x .2) (x .3)) (coded-set (typeAt (S .result) κs .coded) r' r) (λ t.
         inj r' r (ap (λ y. y .0) (ends-one ρ (flat (typesAt (S .params) κs) (x .2)) (x .0) (L .lowered r', x .1) (L .lowered r, t .0) (x .4) (t .1))))
 
+-- both: P holds of whatever the machine returned, and a call ends with a result of which P holds
+pub record Answered {M : Type 1} (𝓤 : URA M) (H : Heap 𝓤) (𝓜 : Model 𝓤 H) (𝓖 : GhostRules 𝓤 H) (S : Signature) (ρ : Routine) (κs : Lfts (S .lifetimes)) (bounds : AllOutlive (S .lifetimes) (S .outlives) κs) (L : Lowered (typeAt (S .result) κs)) (a : Args S κs) (P : Res S κs → Type 0) : Type 1 where
+  pub returned : (y : Res S κs) → Returned 𝓤 H 𝓜 𝓖 S ρ κs bounds L a y → P y
+  pub ends : Ends 𝓤 H 𝓜 𝓖 S ρ κs bounds L a P
+
 -- the same from a function's own theorem: T is its signature with what ends with its borrows, cl its clauses, met its theorem. Where its contract says what its
--- result is read as, and that reading has an inverse, whatever the machine returned is read so.
+-- result is read as, and that reading has an inverse, whatever the machine returned is read so, and every call ends and returns what is read so.
 module _ {M : Type 1} (𝓤 : URA M) (H : Heap 𝓤) (𝓜 : Model 𝓤 H) (𝓖 : GhostRules 𝓤 H) (T : Ended) (ρ : Routine) (cl : Clauses 𝓤 T) (met : Meets 𝓤 H (𝓖 .A) (T .signature) (real 𝓤 H 𝓜 .run ρ) (closing 𝓤 H (𝓖 .A) T cl)) (κs : Lfts (T .signature .lifetimes)) (bounds : AllOutlive (T .signature .lifetimes) (T .signature .outlives) κs) (L : Lowered (typeAt (T .signature .result) κs)) where
   module _ {X : Type 0} (read : Res (T .signature) κs → X) (made : X → Res (T .signature) κs) (read-made : (x : X) → read (made x) ≡ x) (made-read : (y : Res (T .signature) κs) → made (read y) ≡ y) (inj : (y z : Res (T .signature) κs) → L .lowered y ≡ L .lowered z → y ≡ z) where
-    pub read-as : (a : Args (T .signature) κs) (g : cl κs a .ghost) (x : X) → ent 𝓤 (emp 𝓤) (cl κs a .requires g) → ((y : Res (T .signature) κs) (ws : Lasts T κs a) → ent 𝓤 (cl κs a .ensures g y (atExit T κs a ws)) (fact 𝓤 (read y ≡ x))) → (y : Res (T .signature) κs) → Returned 𝓤 H 𝓜 𝓖 (T .signature) ρ κs bounds L a y → read y ≡ x
-    read-as a g x pre tells y back =
-        ap read
-        (returned 𝓤 H 𝓜 𝓖 (T .signature) ρ κs bounds L a (made x)
-        (of-spec 𝓤 H (𝓖 .A) T (givenOf 𝓤 H 𝓜 𝓖) (real 𝓤 H 𝓜 .run ρ) (routine-mono 𝓤 H 𝓜 (real 𝓤 H 𝓜) ρ) cl met κs a g (made x) pre (λ z ws.
-        via 𝓤 (fact 𝓤 (read z ≡ x)) (tells z ws) (fact-mono 𝓤 (read z ≡ x) (z ≡ made x) (λ e. sym (made-read z) ∙ ap made e))))
-        inj y back)
-        ∙ read-made x
+    module _ (a : Args (T .signature) κs) (g : cl κs a .ghost) (x : X) (pre : ent 𝓤 (emp 𝓤) (cl κs a .requires g)) (tells : (y : Res (T .signature) κs) (ws : Lasts T κs a) → ent 𝓤 (cl κs a .ensures g y (atExit T κs a ws)) (fact 𝓤 (read y ≡ x))) where
+      meets : Bracket 𝓤 H (𝓖 .A) (T .signature) (real 𝓤 H 𝓜 .run ρ) κs a (made x)
+      meets =
+          of-spec 𝓤 H (𝓖 .A) T (givenOf 𝓤 H 𝓜 𝓖) (real 𝓤 H 𝓜 .run ρ) (routine-mono 𝓤 H 𝓜 (real 𝓤 H 𝓜) ρ) cl met κs a g (made x) pre (λ z ws.
+          via 𝓤 (fact 𝓤 (read z ≡ x)) (tells z ws) (fact-mono 𝓤 (read z ≡ x) (z ≡ made x) (λ e. sym (made-read z) ∙ ap made e)))
+
+      pub answered : Answered 𝓤 H 𝓜 𝓖 (T .signature) ρ κs bounds L a (λ y. read y ≡ x)
+      answered =
+          record {
+            returned = λ y back. ap read (returned 𝓤 H 𝓜 𝓖 (T .signature) ρ κs bounds L a (made x) meets inj y back) ∙ read-made x;
+            ends = λ σ vss passed.
+                ∥∥₁-map (returns 𝓤 H 𝓜 𝓖 (T .signature) ρ κs bounds L a (made x) meets σ vss passed) (λ t. (made x, read-made x, t .0, t .1));
+          }

@@ -18,11 +18,11 @@ use Rattle.framing.specs.Spans.{Spans}
 use Rattle.framing.specs.Answers.{Annotated, readAnnotation, readValue}
 use Rattle.framing.proofs.Bounds.{Ordered, read-value-each}
 use Rattle.framing.proofs.Locality.{value-given-local, annotation-local}
-use Rattle.stepping.specs.Items.{Item, itemEnd}
+use Rattle.stepping.specs.Items.{Item, itemEnd, Pad}
 use Rattle.stepping.specs.Answers.{Tile, skip, tileAt, Found, found, after, Stepped, stepOf}
-use Rattle.stepping.specs.Runs.{cursor, Answers, Run, none, call}
-use Rattle.runs.specs.Reached.{ValueOf, a-value, a-field, itemStart, Part, the-stream, inner, Handed, left, ReachedBody, of-value, of-pad, In, Agree, Outside, NotOwner, EntryAt, nextAnnotation, AnnotationRun, none as no-more, call as one-more, Annotations}
-use Rattle.runs.specs.Theorems.{Overwriting}
+use Rattle.stepping.specs.Runs.{cursor, Answers, Run, none, call, items}
+use Rattle.runs.specs.Reached.{ValueOf, a-value, a-field, itemStart, Part, the-stream, inner, Handed, left, ReachedBody, of-value, of-pad, In, Agree, Outside, NotOwner, EntryAt, nextAnnotation, AnnotationRun, none as no-more, call as one-more, padsAfter, ByRules, Iff, EitherPart, Calls}
+use Rattle.runs.specs.Theorems.{Overwriting, StillReached}
 use Rattle.stepping.specs.declared.cursor.Cursor.{Cursor}
 use Rattle.stepping.specs.declared.cursor.Rules.{Rules}
 use Rattle.stepping.specs.declared.cursor.Rules.the-variants.{Stream}
@@ -106,7 +106,7 @@ grown (given h) = h
 grown refused = omega arith
 
 -- on two maps with the same annotation bytes the steps have the same answers
-annotations-alone : (s s' : List ℕ) (from end : ℕ) → length s ≡ length s' → Same s s' from end → {at : ℕ} {rs rs' : List (Outcome Annotated)} → from ≤ at → AnnotationRun (Annotations s end) at rs → AnnotationRun (Annotations s' end) at rs' → length rs ≡ length rs' → rs ≡ rs'
+annotations-alone : (s s' : List ℕ) (from end : ℕ) → length s ≡ length s' → Same s s' from end → {at : ℕ} {rs rs' : List (Outcome Annotated)} → from ≤ at → AnnotationRun (ByRules s .annotation end) at rs → AnnotationRun (ByRules s' .annotation end) at rs' → length rs ≡ length rs' → rs ≡ rs'
 annotations-alone s s' from end l same h no-more no-more n = refl
 annotations-alone s s' from end l same h no-more (one-more a run) n = absurd (omega arith)
 annotations-alone s s' from end l same h (one-more a run) no-more n = absurd (omega arith)
@@ -114,7 +114,7 @@ annotations-alone s s' from end l same h (one-more {at} {r} {rs} a run) (one-mor
     let x : readAnnotation s at end ≡ readAnnotation s' at end = annotation-local s s' l at end (λ i c d. same i (omega arith) (omega (arith, looked-high s at end))) in
     let q : r ≡ r' = a ∙ x ∙ sym a' in
     let g : at ≤ nextAnnotation at r = subst (λ (o : Outcome Annotated). at ≤ nextAnnotation at o) (sym a) (grown (annotation-grows s at end)) in
-    let k : rs ≡ rs' = annotations-alone s s' from end l same (omega arith) run (subst (λ (o : Outcome Annotated). AnnotationRun (Annotations s' end) (nextAnnotation at o) rs') (sym q) run') (omega arith) in
+    let k : rs ≡ rs' = annotations-alone s s' from end l same (omega arith) run (subst (λ (o : Outcome Annotated). AnnotationRun (ByRules s' .annotation end) (nextAnnotation at o) rs') (sym q) run') (omega arith) in
     cc
 
 abbrev Rule : List ℕ → Rules → Cursor → Stepped → Type 0
@@ -141,6 +141,12 @@ module _ (s s' : List ℕ) (lo₀ hi₀ b e : ℕ) (body : ReachedBody s (Rule s
 
   over : {rules : Rules} {lo hi : ℕ} → Part (Rule s) lo₀ hi₀ rules lo hi → Outside b e lo hi → {rs : List Stepped} → Run (Answers rules s) (cursor lo hi) rs → Run (Answers rules s') (cursor lo hi) rs
   over {rules} {lo} {hi} pt out run = run-over s s' b e agree rules lo hi (clear pt out) refl stay run
+
+  -- and the next call skips the same pads
+  pads-same : {rules : Rules} {lo hi : ℕ} → Part (Rule s) lo₀ hi₀ rules lo hi → Outside b e lo hi → {rs : List Stepped} → Run (Answers rules s) (cursor lo hi) rs → padsAfter rules s lo hi rs ≡ padsAfter rules s' lo hi rs
+  pads-same {rules} {lo} {hi} pt out {rs} run =
+      let w = led s rules run in
+      ap (λ (f : Found). f .pads) (cursor-over s s' b e agree rules lo hi (clear pt out) (left (cursor lo hi) rs) (w .0) (w .1))
 
   -- a part that holds one outside the body is outside it
   holder : (rules : Rules) (lo hi : ℕ) {i : Item} {v : Spans} → ValueOf i v → (w : ItemStands s rules (cursor lo hi) i) → Outside b e (v .body) (v .end) → Outside b e lo hi
@@ -201,7 +207,7 @@ module _ (s s' : List ℕ) (lo₀ hi₀ b e : ℕ) (body : ReachedBody s (Rule s
     in-order : Ordered (v .start) hi v
     in-order = each-of (read-value-each s (v .start) hi) (there .read)
 
-    pub annotations-same : (rs rs' : List (Outcome Annotated)) → length rs ≡ length rs' → AnnotationRun (Annotations s (v .descriptor)) (v .annotations) rs → AnnotationRun (Annotations s' (v .descriptor)) (v .annotations) rs' → rs ≡ rs'
+    pub annotations-same : (rs rs' : List (Outcome Annotated)) → length rs ≡ length rs' → AnnotationRun (ByRules s .annotation (v .descriptor)) (v .annotations) rs → AnnotationRun (ByRules s' .annotation (v .descriptor)) (v .annotations) rs' → rs ≡ rs'
     annotations-same rs rs' n run run' =
         annotations-alone s s' (v .annotations) (v .descriptor) (agree .long) (λ j m l. header-same j (omega (arith, there .low, in-order .annotated)) (omega (arith, in-order .bodied))) (omega arith) run run' n
 
@@ -286,30 +292,86 @@ body-over s s' {lo₀} {hi₀} (of-pad {rules} {lo} {hi} {rs} {p} pt run m) agre
 swapped : {s s' : List ℕ} {Changed : ℕ → Type 0} → Agree s s' Changed → Agree s' s Changed
 swapped h = record { long = sym (h .long); same = λ i out. sym (h .same i out) }
 
+-- a part that holds the body's owner or the overwritten pad is outside the body
+owner-out : (s : List ℕ) (rules : Rules) (lo hi : ℕ) {i : Item} {v : Spans} {rs : List Stepped} → ValueOf i v → Run (Answers rules s) (cursor lo hi) rs → List·Memᴰ i (items rs) → Outside (v .body) (v .end) lo hi
+owner-out s rules lo hi {v = v} k run m z =
+    let w = item-stands s rules run m in
+    let o = order s rules hi (w .place) (valuePlace v) (item-standing s rules (cursor lo hi) k w) in
+    let a = nest.ahead (Standing s) (order s) (one s) (w .to) in
+    omega arith
+
+pad-out : (s : List ℕ) (rules : Rules) (lo hi : ℕ) {p : Pad} {rs : List Stepped} → Run (Answers rules s) (cursor lo hi) rs → List·Memᴰ p (padsAfter rules s lo hi rs) → Outside (p .body) (p .end) lo hi
+pad-out s rules lo hi {p} {rs} run m z =
+    let c : Cursor = left (cursor lo hi) rs in
+    let w = led s rules run in
+    let y = pad-stands s rules c m in
+    let o = order s rules (c .end) (p .start) (closedPlace (p .body) (p .end)) (record { tile = skip (p .body) (p .end); before = y .before; is = y .is; place = refl }) in
+    let a = nest.ahead (Standing s) (order s) (one s) (w .1) in
+    let a' = nest.ahead (Standing s) (order s) (one s) (y .to) in
+    omega arith
+
+pub still-reached : StillReached
+still-reached s s' lo₀ hi₀ b e body agree = body-over s s' body agree
+
+module _ (s s' : List ℕ) (lo₀ hi₀ b e : ℕ) (body : ReachedBody s (Rule s) lo₀ hi₀ b e) (agree : Agree s s' (In b e)) where
+  body' : ReachedBody s' (Rule s') lo₀ hi₀ b e
+  body' = body-over s s' body agree
+
+  agree' : Agree s' s (In b e)
+  agree' = swapped agree
+
+  abbrev Reached : Rules → ℕ → ℕ → Type 0
+  Reached = EitherPart (ByRules s) (ByRules s') lo₀ hi₀ b e
+
+  abbrev Called : Rules → ℕ → ℕ → List Stepped → List Stepped → Type 0
+  Called = Calls (ByRules s) (ByRules s') lo₀ hi₀ b e
+
+  steps-alike : (rules : Rules) (lo hi : ℕ) → Reached rules lo hi → Outside b e lo hi → (rs rs' : List Stepped) → Called rules lo hi rs rs' → rs ≡ rs'
+  steps-alike rules lo hi pt out rs rs' c =
+      ⊎-elim (λ p. alone rules s' (over s s' lo₀ hi₀ b e body agree p out (c .run)) (c .run') (c .many))
+      (λ p. alone rules s (c .run) (over s' s lo₀ hi₀ b e body' agree' p out (c .run')) (c .many)) pt
+
+  pads-alike : (rules : Rules) (lo hi : ℕ) → Reached rules lo hi → Outside b e lo hi → (rs rs' : List Stepped) → Called rules lo hi rs rs' → padsAfter rules s lo hi rs ≡ padsAfter rules s' lo hi rs'
+  pads-alike rules lo hi pt out rs rs' c =
+      let q : rs ≡ rs' = steps-alike rules lo hi pt out rs rs' c in
+      ⊎-elim (λ p. pads-same s s' lo₀ hi₀ b e body agree p out (c .run) ∙ ap (padsAfter rules s' lo hi) q)
+      (λ p. ap (padsAfter rules s lo hi) q ∙ sym (pads-same s' s lo₀ hi₀ b e body' agree' p out (c .run'))) pt
+
+  owner-alike : (rules : Rules) (lo hi : ℕ) → Reached rules lo hi → (i : Item) (v : Spans) → ValueOf i v → v .body ≡ b → v .end ≡ e → (rs rs' : List Stepped) → Called rules lo hi rs rs' → Iff (List·Memᴰ i (items rs)) (List·Memᴰ i (items rs'))
+  owner-alike rules lo hi pt i v k x y rs rs' c =
+      let at : Outside (v .body) (v .end) lo hi → Outside b e lo hi = λ o z. o (omega arith) in
+      (λ m. subst (λ (l : List Stepped). List·Memᴰ i (items l)) (steps-alike rules lo hi pt (at (owner-out s rules lo hi k (c .run) m)) rs rs' c) m, λ m. subst (λ (l : List Stepped). List·Memᴰ i (items l)) (sym (steps-alike rules lo hi pt (at (owner-out s' rules lo hi k (c .run') m)) rs rs' c)) m)
+
+  pad-alike : (rules : Rules) (lo hi : ℕ) → Reached rules lo hi → (p : Pad) → p .body ≡ b → p .end ≡ e → (rs rs' : List Stepped) → Called rules lo hi rs rs' → Iff (List·Memᴰ p (padsAfter rules s lo hi rs)) (List·Memᴰ p (padsAfter rules s' lo hi rs'))
+  pad-alike rules lo hi pt p x y rs rs' c =
+      let at : Outside (p .body) (p .end) lo hi → Outside b e lo hi = λ o z. o (omega arith) in
+      (λ m. subst (List·Memᴰ p) (pads-alike rules lo hi pt (at (pad-out s rules lo hi (c .run) m)) rs rs' c) m, λ m. subst (List·Memᴰ p) (sym (pads-alike rules lo hi pt (at (pad-out s' rules lo hi (c .run') m)) rs rs' c)) m)
+
 pub overwriting : Overwriting
 overwriting s s' lo₀ hi₀ b e body agree =
-    let body' : ReachedBody s' (Rule s') lo₀ hi₀ b e = body-over s s' body agree in
-    let agree' : Agree s' s (In b e) = swapped agree in
+    let body″ = body' s s' lo₀ hi₀ b e body agree in
+    let agree″ = agree' s s' lo₀ hi₀ b e body agree in
     record {
-      steps = λ rules lo hi pt out rs rs' n run run'.
-          ⊎-elim (λ p. alone rules s' (over s s' lo₀ hi₀ b e body agree p out run) run' n)
-          (λ p. alone rules s run (over s' s lo₀ hi₀ b e body' agree' p out run') n) pt;
-      annotations = λ rules lo hi i v h k out rs rs' n run run'.
-          ⊎-elim (λ x. annotations-same s s' lo₀ hi₀ b e body agree x k out rs rs' n run run')
-          (λ x. sym (annotations-same s' s lo₀ hi₀ b e body' agree' x k out rs' rs (sym n) run' run)) h;
-      enters = λ rules lo hi i v h k out at entry r r' a a'.
+      steps = steps-alike s s' lo₀ hi₀ b e body agree;
+      pads = pads-alike s s' lo₀ hi₀ b e body agree;
+      annotations = λ rules lo hi v h rs rs' n run run'.
+          ⊎-elim (λ x. annotations-same s s' lo₀ hi₀ b e body agree x (h .is) (h .outside) rs rs' n run run')
+          (λ x. sym (annotations-same s' s lo₀ hi₀ b e body″ agree″ x (h .is) (h .outside) rs' rs (sym n) run' run)) (h .handed);
+      enterings = λ rules lo hi v h at entry r r' a a'.
           a
-          ∙ ⊎-elim (λ x. enters-same s s' lo₀ hi₀ b e body agree x k out at entry)
-          (λ x. sym (enters-same s' s lo₀ hi₀ b e body' agree' x k out at entry)) h
+          ∙ ⊎-elim (λ x. enters-same s s' lo₀ hi₀ b e body agree x (h .is) (h .outside) at entry)
+          (λ x. sym (enters-same s' s lo₀ hi₀ b e body″ agree″ x (h .is) (h .outside) at entry)) (h .handed)
           ∙ sym a';
-      reads = λ rules lo hi i v h k out other at entry r r' a a'.
+      readings = λ rules lo hi v h other at entry r r' a a'.
           a
-          ∙ ⊎-elim (λ x. reads-same s s' lo₀ hi₀ b e body agree x k out at entry other .0)
-          (λ x. sym (reads-same s' s lo₀ hi₀ b e body' agree' x k out at entry other .0)) h
+          ∙ ⊎-elim (λ x. reads-same s s' lo₀ hi₀ b e body agree x (h .is) (h .outside) at entry other .0)
+          (λ x. sym (reads-same s' s lo₀ hi₀ b e body″ agree″ x (h .is) (h .outside) at entry other .0)) (h .handed)
           ∙ sym a';
-      parts = λ rules lo hi i v h k out other at entry r r' a a'.
+      parts = λ rules lo hi v h other at entry r r' a a'.
           a
-          ∙ ⊎-elim (λ x. reads-same s s' lo₀ hi₀ b e body agree x k out at entry other .1)
-          (λ x. sym (reads-same s' s lo₀ hi₀ b e body' agree' x k out at entry other .1)) h
+          ∙ ⊎-elim (λ x. reads-same s s' lo₀ hi₀ b e body agree x (h .is) (h .outside) at entry other .1)
+          (λ x. sym (reads-same s' s lo₀ hi₀ b e body″ agree″ x (h .is) (h .outside) at entry other .1)) (h .handed)
           ∙ sym a';
+      owner = owner-alike s s' lo₀ hi₀ b e body agree;
+      pad = pad-alike s s' lo₀ hi₀ b e body agree;
     }

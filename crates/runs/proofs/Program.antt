@@ -23,7 +23,7 @@ use Rattle.stepping.specs.Items.{Item as Answer, finish, marker, value, field}
 use Rattle.stepping.specs.Answers.{Stepped, stepOf}
 use Rattle.stepping.specs.Read.{itemRead, stepRead}
 use Rattle.stepping.specs.Runs.{cursor, Answers, Run, none, call}
-use Rattle.runs.specs.Reached.{Part, the-stream, inner, Handed, ReachedBody, of-value, of-pad, AnnotationRun, none as no-more, call as one-more}
+use Rattle.runs.specs.Reached.{Part, the-stream, inner, Handed, ReachedBody, of-value, of-pad, AnnotationRun, none as no-more, call as one-more, ByRules, EitherPart, EitherValue, Calls, SameAnswers}
 use Rattle.stepping.specs.declared.cursor.Cursor.{Cursor}
 use Rattle.stepping.specs.declared.cursor.Rules.{Rules}
 use Rattle.stepping.specs.declared.cursor.Rules.the-variants.{Stream, Sequence, Fields}
@@ -31,11 +31,12 @@ use Rattle.stepping.specs.declared.cursor.Item.{Item}
 use Rattle.stepping.specs.declared.cursor.Item.the-variants.{End, Marker, Value, Field, Refused}
 use Rattle.stepping.specs.declared.cursor.Step.{Step}
 use Rattle.runs.proofs.Machine as machine
+use Rattle.runs.proofs.Machine.{Answered}
 use Rattle.runs.proofs.Values.{num, parts, nth, choose}
 use Rattle.stepping.proofs.Tiling.{tiling}
 use Rattle.runs.proofs.Overwriting.{overwriting}
-use Rattle.runs.specs.Program.{Program, BytesRead, ProgramTiling, ProgramOverwriting}
-use Rattle.runs.proofs.Entries.{annotates, enters, reads}
+use Rattle.runs.specs.Program.{Program, BytesRead, ByProgram, ProgramTiling, ProgramOverwriting, StepEnds, ProgramEnds}
+use Rattle.runs.proofs.Entries.{annotates, enters, reads, annotation-answers, entering-answers, reading-answers}
 use Rattle.stepping.proofs.cursor.Step.Laws.{lowered, lowers}
 use Rattle.stepping.proofs.cursor.Cursor.next_in_stream as in-stream
 use Rattle.stepping.proofs.cursor.Cursor.next_in_stream.Symbol as in-stream-symbol
@@ -152,20 +153,42 @@ either f g (inl a) = inl (f a)
 either f g (inr b) = inr (g b)
 
 module _ {M : Type 1} (𝓤 : URA M) (H : Heap 𝓤) (𝓜 : Model 𝓤 H) (𝓖 : GhostRules 𝓤 H) (κs : Lfts 1) where
-  -- each answer of the program is the one that the rules define: from the theorems of the three methods
+  -- the machine's answers to the three methods, and that each call ends: from their theorems
+  in-stream-answers : (s : RefT (List ℕ)) (c : Cursor) → Answered 𝓤 H 𝓜 𝓖 in-stream.signature in-stream-symbol.routine κs tt lowers (c, (s, tt)) (λ x. stepRead x ≡ stepOf Stream (now s) c)
+  in-stream-answers s c =
+      machine.answered 𝓤 H 𝓜 𝓖 in-stream.ended in-stream-symbol.routine (in-stream.clauses 𝓤 H (𝓖 .A) (𝓜 .mem) (real 𝓤 H 𝓜 .run)) (in-stream-met.met 𝓤 H 𝓜 𝓖 (real 𝓤 H 𝓜)) κs tt lowers stepRead made read-made made-read one-value
+      (c, (s, tt)) tt (stepOf Stream (now s) c) (id⊢ 𝓤 (emp 𝓤)) (λ x ws. id⊢ 𝓤 (fact 𝓤 (stepRead x ≡ stepOf Stream (now s) c)))
+
+  in-sequence-answers : (s : RefT (List ℕ)) (c : Cursor) → Answered 𝓤 H 𝓜 𝓖 in-sequence.signature in-sequence-symbol.routine κs tt lowers (c, (s, tt)) (λ x. stepRead x ≡ stepOf Sequence (now s) c)
+  in-sequence-answers s c =
+      machine.answered 𝓤 H 𝓜 𝓖 in-sequence.ended in-sequence-symbol.routine (in-sequence.clauses 𝓤 H (𝓖 .A) (𝓜 .mem) (real 𝓤 H 𝓜 .run)) (in-sequence-met.met 𝓤 H 𝓜 𝓖 (real 𝓤 H 𝓜)) κs tt lowers stepRead made read-made made-read one-value
+      (c, (s, tt)) tt (stepOf Sequence (now s) c) (id⊢ 𝓤 (emp 𝓤)) (λ x ws. id⊢ 𝓤 (fact 𝓤 (stepRead x ≡ stepOf Sequence (now s) c)))
+
+  in-struct-answers : (s : RefT (List ℕ)) (c : Cursor) → Answered 𝓤 H 𝓜 𝓖 in-struct.signature in-struct-symbol.routine κs tt lowers (c, (s, tt)) (λ x. stepRead x ≡ stepOf Fields (now s) c)
+  in-struct-answers s c =
+      machine.answered 𝓤 H 𝓜 𝓖 in-struct.ended in-struct-symbol.routine (in-struct.clauses 𝓤 H (𝓖 .A) (𝓜 .mem) (real 𝓤 H 𝓜 .run)) (in-struct-met.met 𝓤 H 𝓜 𝓖 (real 𝓤 H 𝓜)) κs tt lowers stepRead made read-made made-read one-value
+      (c, (s, tt)) tt (stepOf Fields (now s) c) (id⊢ 𝓤 (emp 𝓤)) (λ x ws. id⊢ 𝓤 (fact 𝓤 (stepRead x ≡ stepOf Fields (now s) c)))
+
+  -- each answer of the program is the one that the rules define
   pub answers : (rules : Rules) (s : RefT (List ℕ)) (c : Cursor) (r : Stepped) → Program 𝓤 H 𝓜 𝓖 κs rules s c r → Answers rules (now s) c r
-  answers Stream s c r p =
-      sym (p .2)
-      ∙ machine.read-as 𝓤 H 𝓜 𝓖 in-stream.ended in-stream-symbol.routine (in-stream.clauses 𝓤 H (𝓖 .A) (𝓜 .mem) (real 𝓤 H 𝓜 .run)) (in-stream-met.met 𝓤 H 𝓜 𝓖 (real 𝓤 H 𝓜)) κs tt lowers stepRead made read-made made-read one-value
-      (c, (s, tt)) tt (stepOf Stream (now s) c) (id⊢ 𝓤 (emp 𝓤)) (λ x ws. id⊢ 𝓤 (fact 𝓤 (stepRead x ≡ stepOf Stream (now s) c))) (p .0) (p .1)
-  answers Sequence s c r p =
-      sym (p .2)
-      ∙ machine.read-as 𝓤 H 𝓜 𝓖 in-sequence.ended in-sequence-symbol.routine (in-sequence.clauses 𝓤 H (𝓖 .A) (𝓜 .mem) (real 𝓤 H 𝓜 .run)) (in-sequence-met.met 𝓤 H 𝓜 𝓖 (real 𝓤 H 𝓜)) κs tt lowers stepRead made read-made made-read one-value
-      (c, (s, tt)) tt (stepOf Sequence (now s) c) (id⊢ 𝓤 (emp 𝓤)) (λ x ws. id⊢ 𝓤 (fact 𝓤 (stepRead x ≡ stepOf Sequence (now s) c))) (p .0) (p .1)
-  answers Fields s c r p =
-      sym (p .2)
-      ∙ machine.read-as 𝓤 H 𝓜 𝓖 in-struct.ended in-struct-symbol.routine (in-struct.clauses 𝓤 H (𝓖 .A) (𝓜 .mem) (real 𝓤 H 𝓜 .run)) (in-struct-met.met 𝓤 H 𝓜 𝓖 (real 𝓤 H 𝓜)) κs tt lowers stepRead made read-made made-read one-value
-      (c, (s, tt)) tt (stepOf Fields (now s) c) (id⊢ 𝓤 (emp 𝓤)) (λ x ws. id⊢ 𝓤 (fact 𝓤 (stepRead x ≡ stepOf Fields (now s) c))) (p .0) (p .1)
+  answers Stream s c r p = sym (p .2) ∙ in-stream-answers s c .returned (p .0) (p .1)
+  answers Sequence s c r p = sym (p .2) ∙ in-sequence-answers s c .returned (p .0) (p .1)
+  answers Fields s c r p = sym (p .2) ∙ in-struct-answers s c .returned (p .0) (p .1)
+
+  -- and each call ends with it
+  step-ends : (rules : Rules) (s : RefT (List ℕ)) (c : Cursor) → StepEnds 𝓤 H 𝓜 𝓖 κs rules s c
+  step-ends Stream s c = in-stream-answers s c .ends
+  step-ends Sequence s c = in-sequence-answers s c .ends
+  step-ends Fields s c = in-struct-answers s c .ends
+
+  pub program-ends : ProgramEnds 𝓤 H 𝓜 𝓖 κs
+  program-ends =
+      record {
+        steps = step-ends;
+        annotation = λ s at end. annotation-answers 𝓤 H 𝓜 𝓖 κs s at end .ends;
+        entering = λ s lo hi at. entering-answers 𝓤 H 𝓜 𝓖 κs s lo hi at .ends;
+        reading = λ s lo hi at. reading-answers 𝓤 H 𝓜 𝓖 κs s lo hi at .ends;
+      }
 
   pub program-tiling : ProgramTiling 𝓤 H 𝓜 𝓖 κs
   program-tiling rules s lo hi rs run = tiling rules (now s) lo hi rs (map-run (answers rules s) run)
@@ -176,22 +199,36 @@ module _ {M : Type 1} (𝓤 : URA M) (H : Heap 𝓤) (𝓜 : Model 𝓤 H) (𝓖
 
   pub program-overwriting : ProgramOverwriting 𝓤 H 𝓜 𝓖 κs
   program-overwriting s s' lo₀ hi₀ b e body agree =
-      let on : (rules : Rules) (c : Cursor) (r : Stepped) → Program 𝓤 H 𝓜 𝓖 κs rules s c r → Answers rules (now s) c r = λ rules. answers rules s in
-      let on' : (rules : Rules) (c : Cursor) (r : Stepped) → Program 𝓤 H 𝓜 𝓖 κs rules s' c r → Answers rules (now s') c r = λ rules. answers rules s' in
-      let same = overwriting (now s) (now s') lo₀ hi₀ b e (map-body on body) agree in
       record {
-        steps = λ rules lo hi part out rs rs' n run run'.
-            same .steps rules lo hi (either (map-part on) (map-part on') part) out rs rs' n (map-run (on rules) run) (map-run (on' rules) run');
-        annotations = λ rules lo hi i v h k out rs rs' n run run'.
-            same .annotations rules lo hi i v (either (map-handed on) (map-handed on') h) k out rs rs' n
+        steps = λ rules lo hi pt out rs rs' c. same .steps rules lo hi (part pt) out rs rs' (calls c);
+        pads = λ rules lo hi pt out rs rs' c. same .pads rules lo hi (part pt) out rs rs' (calls c);
+        annotations = λ rules lo hi v h rs rs' n run run'.
+            same .annotations rules lo hi v (valued h) rs rs' n
             (map-annotations (annotates 𝓤 H 𝓜 𝓖 κs s (v .descriptor)) run) (map-annotations (annotates 𝓤 H 𝓜 𝓖 κs s' (v .descriptor)) run');
-        enters = λ rules lo hi i v h k out at entry r r' a a'.
-            same .enters rules lo hi i v (either (map-handed on) (map-handed on') h) k out at entry r r'
-            (enters 𝓤 H 𝓜 𝓖 κs s lo hi at r a) (enters 𝓤 H 𝓜 𝓖 κs s' lo hi at r' a');
-        reads = λ rules lo hi i v h k out other at entry r r' a a'.
-            same .reads rules lo hi i v (either (map-handed on) (map-handed on') h) k out other at entry r r'
-            (reads 𝓤 H 𝓜 𝓖 κs s lo hi at r a) (reads 𝓤 H 𝓜 𝓖 κs s' lo hi at r' a');
-        parts = λ rules lo hi i v h k out other at entry r r' a a'.
-            same .parts rules lo hi i v (either (map-handed on) (map-handed on') h) k out other at entry r r'
-            (bytes-read s lo hi at r a) (bytes-read s' lo hi at r' a');
+        enterings = λ rules lo hi v h at entry r r' a a'.
+            same .enterings rules lo hi v (valued h) at entry r r' (enters 𝓤 H 𝓜 𝓖 κs s lo hi at r a) (enters 𝓤 H 𝓜 𝓖 κs s' lo hi at r' a');
+        readings = λ rules lo hi v h other at entry r r' a a'.
+            same .readings rules lo hi v (valued h) other at entry r r' (reads 𝓤 H 𝓜 𝓖 κs s lo hi at r a) (reads 𝓤 H 𝓜 𝓖 κs s' lo hi at r' a');
+        parts = λ rules lo hi v h other at entry r r' a a'.
+            same .parts rules lo hi v (valued h) other at entry r r' (bytes-read s lo hi at r a) (bytes-read s' lo hi at r' a');
+        owner = λ rules lo hi pt i v k x y rs rs' c. same .owner rules lo hi (part pt) i v k x y rs rs' (calls c);
+        pad = λ rules lo hi pt p x y rs rs' c. same .pad rules lo hi (part pt) p x y rs rs' (calls c);
       }
+    where
+      on : (rules : Rules) (c : Cursor) (r : Stepped) → Program 𝓤 H 𝓜 𝓖 κs rules s c r → Answers rules (now s) c r
+      on rules = answers rules s
+
+      on' : (rules : Rules) (c : Cursor) (r : Stepped) → Program 𝓤 H 𝓜 𝓖 κs rules s' c r → Answers rules (now s') c r
+      on' rules = answers rules s'
+
+      same : SameAnswers (ByRules (now s)) (ByRules (now s')) lo₀ hi₀ b e
+      same = overwriting (now s) (now s') lo₀ hi₀ b e (map-body on body) agree
+
+      part : {rules : Rules} {lo hi : ℕ} → EitherPart (ByProgram 𝓤 H 𝓜 𝓖 κs s) (ByProgram 𝓤 H 𝓜 𝓖 κs s') lo₀ hi₀ b e rules lo hi → EitherPart (ByRules (now s)) (ByRules (now s')) lo₀ hi₀ b e rules lo hi
+      part pt = either (map-part on) (map-part on') pt
+
+      valued : {rules : Rules} {lo hi : ℕ} {v : Spans} → EitherValue (ByProgram 𝓤 H 𝓜 𝓖 κs s) (ByProgram 𝓤 H 𝓜 𝓖 κs s') lo₀ hi₀ b e rules lo hi v → EitherValue (ByRules (now s)) (ByRules (now s')) lo₀ hi₀ b e rules lo hi v
+      valued h = record { item = h .item; handed = either (map-handed on) (map-handed on') (h .handed); is = h .is; outside = h .outside }
+
+      calls : {rules : Rules} {lo hi : ℕ} {rs rs' : List Stepped} → Calls (ByProgram 𝓤 H 𝓜 𝓖 κs s) (ByProgram 𝓤 H 𝓜 𝓖 κs s') lo₀ hi₀ b e rules lo hi rs rs' → Calls (ByRules (now s)) (ByRules (now s')) lo₀ hi₀ b e rules lo hi rs rs'
+      calls {rules} c = record { many = c .many; run = map-run (on rules) (c .run); run' = map-run (on' rules) (c .run') }

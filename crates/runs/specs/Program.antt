@@ -1,5 +1,5 @@
--- The program's own answers: what the machine returned to calls of the six entries. The theorems on runs, of these: `program-tiling` and `program-overwriting`
--- of proofs/Program.antt. As a function's statement is, they are for every model of the machine.
+-- The program's own answers: what the machine returned to calls of the six entries, and that each call ends. The theorems on runs, of these: `program-tiling`,
+-- `program-overwriting` and `program-ends` of proofs/Program.antt. As a function's statement is, they are for every model of the machine.
 -- Assumes nothing.
 use Prim.Native.Nat.{ℕ}
 use mathlib.Core.Path.{_≡_}
@@ -11,13 +11,13 @@ use contract.Lifetimes.{Lfts}
 use contract.Running.{GhostRules}
 use denote.Ref.{RefT, now}
 use Rattle.numbers.specs.Outcome.{Outcome}
-use Rattle.framing.specs.Answers.{Annotated}
+use Rattle.framing.specs.Answers.{Annotated, readAnnotation}
 use Rattle.framing.specs.Read.{annotationRead}
 use Rattle.framing.specs.declared.annotations_iterator.Annotation.{Annotation}
 use Rattle.framing.proofs.annotations_iterator.Annotation.Laws as annotation-laws
 use Rattle.framing.proofs.annotations_iterator.read_annotation as annotation
 use Rattle.framing.proofs.annotations_iterator.read_annotation.Symbol as annotation-symbol
-use Rattle.stepping.specs.Answers.{Stepped}
+use Rattle.stepping.specs.Answers.{Stepped, stepOf}
 use Rattle.stepping.specs.Read.{stepRead}
 use Rattle.stepping.specs.Runs.{cursor, Run, Tiled}
 use Rattle.stepping.specs.declared.cursor.Cursor.{Cursor}
@@ -32,7 +32,7 @@ use Rattle.stepping.proofs.cursor.Cursor.next_in_sequence.Symbol as in-sequence
 use Rattle.stepping.proofs.cursor.Cursor.next_in_struct as in-struct
 use Rattle.stepping.proofs.cursor.Cursor.next_in_struct.Symbol as in-struct-symbol
 use Rattle.values.specs.Read.{bodyRead, scalarRead}
-use Rattle.values.specs.Scalars.{Opened, Scalar, partOf}
+use Rattle.values.specs.Scalars.{Opened, stepIn, Scalar, readScalar, partOf}
 use Rattle.values.specs.declared.value.Body.{Body as BodyEnum}
 use Rattle.values.specs.declared.value.Scalar.{Scalar as ScalarEnum}
 use Rattle.values.proofs.value.Body.Laws as body-laws
@@ -42,7 +42,7 @@ use Rattle.values.proofs.value.Scalar.Laws as scalar-laws
 use Rattle.values.proofs.value.read as reading
 use Rattle.values.proofs.value.read.Symbol as reading-symbol
 use Rattle.runs.specs.Machine as machine
-use Rattle.runs.specs.Reached.{ReachedBody, Agree, In, SameAnswers}
+use Rattle.runs.specs.Reached.{ReachedBody, Agree, In, Entries, SameAnswers}
 
 module _ {M : Type 1} (𝓤 : URA M) (H : Heap 𝓤) (𝓜 : Model 𝓤 H) (𝓖 : GhostRules 𝓤 H) (κs : Lfts 1) where
   -- the machine, called for the program's step of these rules with the cursor c on the slice s, in some memory in which they are passed, returned x
@@ -57,19 +57,40 @@ module _ {M : Type 1} (𝓤 : URA M) (H : Heap 𝓤) (𝓜 : Model 𝓤 H) (𝓖
 
   -- o is what the machine's answer to an annotation step on s, at `at` of the bytes that end at `end`, is read as
   abbrev pub Annotates : RefT (List ℕ) → ℕ → ℕ → Outcome Annotated → Type 1
-  Annotates s end at o = (x : Annotation) × machine.Returned 𝓤 H 𝓜 𝓖 annotation.signature annotation-symbol.routine κs tt annotation-laws.lowers (s, (at, (end, tt))) x × (annotationRead x ≡ o)
+  Annotates s end at o =
+      (x : Annotation)
+      × machine.Returned 𝓤 H 𝓜 𝓖 annotation.signature annotation-symbol.routine κs tt annotation-laws.lowers (s, (at, (end, tt))) x
+      × (annotationRead x ≡ o)
 
   -- and to stepping in, in the part lo..hi at `at`
   abbrev pub Enters : RefT (List ℕ) → ℕ → ℕ → ℕ → Outcome Opened → Type 1
-  Enters s lo hi at o = (x : BodyEnum) × machine.Returned 𝓤 H 𝓜 𝓖 entering.signature entering-symbol.routine κs tt body-laws.lowers (s, (lo, (hi, (at, tt)))) x × (bodyRead x ≡ o)
+  Enters s lo hi at o =
+      (x : BodyEnum)
+      × machine.Returned 𝓤 H 𝓜 𝓖 entering.signature entering-symbol.routine κs tt body-laws.lowers (s, (lo, (hi, (at, tt)))) x
+      × (bodyRead x ≡ o)
 
   -- and to the scalar reading
   abbrev pub Reads : RefT (List ℕ) → ℕ → ℕ → ℕ → Outcome Scalar → Type 1
-  Reads s lo hi at o = (x : ScalarEnum) × machine.Returned 𝓤 H 𝓜 𝓖 reading.signature reading-symbol.routine κs tt scalar-laws.lowers (s, (lo, (hi, (at, tt)))) x × (scalarRead x ≡ o)
+  Reads s lo hi at o =
+      (x : ScalarEnum)
+      × machine.Returned 𝓤 H 𝓜 𝓖 reading.signature reading-symbol.routine κs tt scalar-laws.lowers (s, (lo, (hi, (at, tt)))) x
+      × (scalarRead x ≡ o)
 
   -- the bytes of the map at the span that the machine's scalar reading returned
   abbrev pub BytesRead : RefT (List ℕ) → ℕ → ℕ → ℕ → List ℕ → Type 1
   BytesRead s lo hi at r = (o : Outcome Scalar) × Reads s lo hi at o × (r ≡ partOf (now s) o)
+
+  -- the map s with the program's answers
+  abbrev pub ByProgram : RefT (List ℕ) → Entries {1}
+  ByProgram s =
+      record {
+        map = now s;
+        step = λ rules. Program rules s;
+        annotation = Annotates s;
+        entering = Enters s;
+        reading = Reads s;
+        bytes = BytesRead s;
+      }
 
   -- Demand 3, first half, of the program: whatever the machine returned, in however many calls, tiles the part.
   abbrev pub ProgramTiling : Type 1
@@ -77,25 +98,31 @@ module _ {M : Type 1} (𝓤 : URA M) (H : Heap 𝓤) (𝓜 : Model 𝓤 H) (𝓖
       (rules : Rules) (s : RefT (List ℕ)) (lo hi : ℕ) (rs : List Stepped)
       → Run (Program rules s) (cursor lo hi) rs → Tiled rules (now s) lo hi rs
 
-  -- Demand 3, second half, of the program: whatever the machine returned on two maps that are alike outside one reached body, in however many calls outside it, is
-  -- the same.
+  -- Demand 3, second half, of the program: whatever the machine returned on two maps that are alike outside one reached body, in however many calls outside it,
+  -- is the same.
   abbrev pub ProgramOverwriting : Type 1
   ProgramOverwriting =
       (s s' : RefT (List ℕ)) (lo₀ hi₀ b e : ℕ)
-      → ReachedBody (now s) (λ rules. Program rules s) lo₀ hi₀ b e
-      → Agree (now s) (now s') (In b e)
-      → SameAnswers
-      (λ rules. Program rules s)
-      (λ rules. Program rules s')
-      (Annotates s)
-      (Annotates s')
-      (Enters s)
-      (Enters s')
-      (Reads s)
-      (Reads s')
-      (BytesRead s)
-      (BytesRead s')
-      lo₀
-      hi₀
-      b
-      e
+      → ReachedBody (now s) (ByProgram s .step) lo₀ hi₀ b e → Agree (now s) (now s') (In b e) → SameAnswers (ByProgram s) (ByProgram s') lo₀ hi₀ b e
+
+  -- The calls of the program end: of a step with any cursor on any slice, in every memory in which they are passed, with the answer that the rules define.
+  abbrev pub StepEnds : Rules → RefT (List ℕ) → Cursor → Type 1
+  StepEnds Stream s c =
+      machine.Ends 𝓤 H 𝓜 𝓖 in-stream.signature in-stream-symbol.routine κs tt lowers (c, (s, tt)) (λ x. stepRead x ≡ stepOf Stream (now s) c)
+  StepEnds Sequence s c =
+      machine.Ends 𝓤 H 𝓜 𝓖 in-sequence.signature in-sequence-symbol.routine κs tt lowers (c, (s, tt)) (λ x. stepRead x ≡ stepOf Sequence (now s) c)
+  StepEnds Fields s c =
+      machine.Ends 𝓤 H 𝓜 𝓖 in-struct.signature in-struct-symbol.routine κs tt lowers (c, (s, tt)) (λ x. stepRead x ≡ stepOf Fields (now s) c)
+
+  -- So do those of the annotation step, stepping in and the scalar reading, at any positions.
+  pub record ProgramEnds : Type 1 where
+    pub steps : (rules : Rules) (s : RefT (List ℕ)) (c : Cursor) → StepEnds rules s c
+    pub annotation : (s : RefT (List ℕ)) (at end : ℕ)
+        → machine.Ends 𝓤 H 𝓜 𝓖 annotation.signature annotation-symbol.routine κs tt annotation-laws.lowers (s, (at, (end, tt)))
+        (λ x. annotationRead x ≡ readAnnotation (now s) at end)
+    pub entering : (s : RefT (List ℕ)) (lo hi at : ℕ)
+        → machine.Ends 𝓤 H 𝓜 𝓖 entering.signature entering-symbol.routine κs tt body-laws.lowers (s, (lo, (hi, (at, tt))))
+        (λ x. bodyRead x ≡ stepIn (now s) lo hi at)
+    pub reading : (s : RefT (List ℕ)) (lo hi at : ℕ)
+        → machine.Ends 𝓤 H 𝓜 𝓖 reading.signature reading-symbol.routine κs tt scalar-laws.lowers (s, (lo, (hi, (at, tt))))
+        (λ x. scalarRead x ≡ readScalar (now s) lo hi at)

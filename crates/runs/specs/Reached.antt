@@ -11,7 +11,7 @@ use Rattle.framing.specs.Spans.{Spans}
 use Rattle.framing.specs.Answers.{Annotated, ident, finished, readAnnotation}
 use Rattle.stepping.specs.Items.{Item, finish, marker, value, field, itemEnd, Pad}
 use Rattle.stepping.specs.Answers.{found, Stepped}
-use Rattle.stepping.specs.Runs.{cursor, Run, items}
+use Rattle.stepping.specs.Runs.{cursor, Answers, Run, items}
 use Rattle.stepping.specs.declared.cursor.Cursor.{Cursor}
 use Rattle.stepping.specs.declared.cursor.Rules.{Rules}
 use Rattle.stepping.specs.declared.cursor.Rules.the-variants.{Stream}
@@ -33,7 +33,9 @@ itemStart (field id a v) = a
 -- `step rules c r` says which answers r a step of these rules with the cursor c has.
 pub data Part {ℓ} (step : Rules → Cursor → Stepped → Type ℓ) (lo₀ hi₀ : ℕ) : Rules → ℕ → ℕ → Type ℓ where
   the-stream : Part step lo₀ hi₀ Stream lo₀ hi₀
-  inner : {rules : Rules} {lo hi : ℕ} {rs : List Stepped} {i : Item} {v : Spans} → Part step lo₀ hi₀ rules lo hi → Run (step rules) (cursor lo hi) rs → List·Memᴰ i (items rs) → ValueOf i v → isContainer v ≡ true → Part step lo₀ hi₀ (bodyRules v) (v .body) (v .end)
+  inner : {rules : Rules} {lo hi : ℕ} {rs : List Stepped} {i : Item} {v : Spans}
+      → Part step lo₀ hi₀ rules lo hi → Run (step rules) (cursor lo hi) rs → List·Memᴰ i (items rs) → ValueOf i v → isContainer v ≡ true
+      → Part step lo₀ hi₀ (bodyRules v) (v .body) (v .end)
 
 -- an item that a run on the reached part lo..hi hands out
 pub record Handed {ℓ} (step : Rules → Cursor → Stepped → Type ℓ) (lo₀ hi₀ : ℕ) (rules : Rules) (lo hi : ℕ) (i : Item) : Type ℓ where
@@ -47,10 +49,21 @@ abbrev pub left : Cursor → List Stepped → Cursor
 left c [] = c
 left c (r ∷ rs) = left (r .next) rs
 
--- the reached bodies b..e of the map s: of each value handed out, and of each pad that a call after a run passes, "also where the step then refuses or ends"
+-- the pads that a call after the calls rs on the part lo..hi skips
+abbrev pub padsAfter : Rules → List ℕ → ℕ → ℕ → List Stepped → List Pad
+padsAfter rules s lo hi rs = found rules s (left (cursor lo hi) rs) .pads
+
+-- the reached bodies b..e of the map s: of each value handed out, and of each pad that a call after a run skips, "also where the step then refuses or ends"
 pub data ReachedBody {ℓ} (s : List ℕ) (step : Rules → Cursor → Stepped → Type ℓ) (lo₀ hi₀ : ℕ) : ℕ → ℕ → Type ℓ where
-  of-value : {rules : Rules} {lo hi : ℕ} {i : Item} {v : Spans} → Handed step lo₀ hi₀ rules lo hi i → ValueOf i v → ReachedBody s step lo₀ hi₀ (v .body) (v .end)
-  of-pad : {rules : Rules} {lo hi : ℕ} {rs : List Stepped} {p : Pad} → Part step lo₀ hi₀ rules lo hi → Run (step rules) (cursor lo hi) rs → List·Memᴰ p (found rules s (left (cursor lo hi) rs) .pads) → ReachedBody s step lo₀ hi₀ (p .body) (p .end)
+  of-value : {rules : Rules} {lo hi : ℕ} {i : Item} {v : Spans}
+      → Handed step lo₀ hi₀ rules lo hi i → ValueOf i v → ReachedBody s step lo₀ hi₀ (v .body) (v .end)
+  of-pad : {rules : Rules} {lo hi : ℕ} {rs : List Stepped} {p : Pad}
+      → Part step lo₀ hi₀ rules lo hi → Run (step rules) (cursor lo hi) rs → List·Memᴰ p (padsAfter rules s lo hi rs)
+      → ReachedBody s step lo₀ hi₀ (p .body) (p .end)
+
+-- two statements that hold together
+abbrev pub Iff : Type 0 → Type 0 → Type 0
+Iff A B = (A → B) × (B → A)
 
 -- the position i is in b..e
 abbrev pub In : ℕ → ℕ → ℕ → Type 0
@@ -82,29 +95,69 @@ nextAnnotation at (refuses number position) = at
 
 pub data AnnotationRun {ℓ} (step : ℕ → Outcome Annotated → Type ℓ) : ℕ → List (Outcome Annotated) → Type ℓ where
   none : {at : ℕ} → AnnotationRun step at []
-  call : {at : ℕ} {r : Outcome Annotated} {rs : List (Outcome Annotated)} → step at r → AnnotationRun step (nextAnnotation at r) rs → AnnotationRun step at (r ∷ rs)
+  call : {at : ℕ} {r : Outcome Annotated} {rs : List (Outcome Annotated)}
+      → step at r → AnnotationRun step (nextAnnotation at r) rs → AnnotationRun step at (r ∷ rs)
 
--- the answers that the rules define, beside those of a step: of an annotation step at a position of the bytes that end at `end`; of stepping in, the
--- scalar reading and its part, in the part lo..hi at a position
-abbrev pub Annotations : List ℕ → ℕ → ℕ → Outcome Annotated → Type 0
-Annotations s end at r = r ≡ readAnnotation s at end
+-- a map with the answers that its six entries have: the steps of the three rules with a cursor; the annotation step at a position of bytes that end at `end`;
+-- stepping in, the scalar reading and the bytes of its part, in the part lo..hi at a position
+pub record Entries {ℓ} : Type (ℓ + 1) where
+  pub map : List ℕ
+  pub step : Rules → Cursor → Stepped → Type ℓ
+  pub annotation : ℕ → ℕ → Outcome Annotated → Type ℓ
+  pub entering : ℕ → ℕ → ℕ → Outcome Opened → Type ℓ
+  pub reading : ℕ → ℕ → ℕ → Outcome Scalar → Type ℓ
+  pub bytes : ℕ → ℕ → ℕ → List ℕ → Type ℓ
 
-abbrev pub Opens : List ℕ → ℕ → ℕ → ℕ → Outcome Opened → Type 0
-Opens s lo hi at r = r ≡ stepIn s lo hi at
+-- the map s with the answers that the rules define
+abbrev pub ByRules : List ℕ → Entries {0}
+ByRules s =
+    record {
+      map = s;
+      step = λ rules. Answers rules s;
+      annotation = λ end at r. r ≡ readAnnotation s at end;
+      entering = λ lo hi at r. r ≡ stepIn s lo hi at;
+      reading = λ lo hi at r. r ≡ readScalar s lo hi at;
+      bytes = λ lo hi at r. r ≡ scalarPart s lo hi at;
+    }
 
-abbrev pub Readings : List ℕ → ℕ → ℕ → ℕ → Outcome Scalar → Type 0
-Readings s lo hi at r = r ≡ readScalar s lo hi at
+-- Two maps E and E' with the stream lo₀..hi₀, and a body b..e. A part that is reached in either map, and a value that is handed out in either, with the item
+-- that it is.
+module _ {ℓ} (E E' : Entries {ℓ}) (lo₀ hi₀ b e : ℕ) where
+  abbrev pub EitherPart : Rules → ℕ → ℕ → Type ℓ
+  EitherPart rules lo hi = Part (E .step) lo₀ hi₀ rules lo hi ⊎ Part (E' .step) lo₀ hi₀ rules lo hi
 
-abbrev pub Bytes : List ℕ → ℕ → ℕ → ℕ → List ℕ → Type 0
-Bytes s lo hi at r = r ≡ scalarPart s lo hi at
+  pub record EitherValue (rules : Rules) (lo hi : ℕ) (v : Spans) : Type ℓ where
+    pub item : Item
+    pub handed : Handed (E .step) lo₀ hi₀ rules lo hi item ⊎ Handed (E' .step) lo₀ hi₀ rules lo hi item
+    pub is : ValueOf item v
+    pub outside : Outside b e (itemStart item) (itemEnd item)
 
--- Two maps, each with the answers that its six entries have, give the same ones outside the body b..e. "Both maps get the same calls, with the same arguments
--- beside map and cursor": lists of step calls of one length on a part reached in either map and outside the body; lists of annotation steps of one length on
--- a value reached in either and not in the body, "the owner's included"; stepping in likewise, "the owner counts as outside"; the scalar reading, with the
--- bytes of its part, of a value that "neither owns the body nor lies in it".
-pub record SameAnswers {ℓ} (step step' : Rules → Cursor → Stepped → Type ℓ) (annotate annotate' : ℕ → ℕ → Outcome Annotated → Type ℓ) (enter enter' : ℕ → ℕ → ℕ → Outcome Opened → Type ℓ) (read read' : ℕ → ℕ → ℕ → Outcome Scalar → Type ℓ) (bytes bytes' : ℕ → ℕ → ℕ → List ℕ → Type ℓ) (lo₀ hi₀ b e : ℕ) : Type ℓ where
-  pub steps : (rules : Rules) (lo hi : ℕ) → Part step lo₀ hi₀ rules lo hi ⊎ Part step' lo₀ hi₀ rules lo hi → Outside b e lo hi → (rs rs' : List Stepped) → length rs ≡ length rs' → Run (step rules) (cursor lo hi) rs → Run (step' rules) (cursor lo hi) rs' → rs ≡ rs'
-  pub annotations : (rules : Rules) (lo hi : ℕ) (i : Item) (v : Spans) → Handed step lo₀ hi₀ rules lo hi i ⊎ Handed step' lo₀ hi₀ rules lo hi i → ValueOf i v → Outside b e (itemStart i) (itemEnd i) → (rs rs' : List (Outcome Annotated)) → length rs ≡ length rs' → AnnotationRun (annotate (v .descriptor)) (v .annotations) rs → AnnotationRun (annotate' (v .descriptor)) (v .annotations) rs' → rs ≡ rs'
-  pub enters : (rules : Rules) (lo hi : ℕ) (i : Item) (v : Spans) → Handed step lo₀ hi₀ rules lo hi i ⊎ Handed step' lo₀ hi₀ rules lo hi i → ValueOf i v → Outside b e (itemStart i) (itemEnd i) → (at : ℕ) → EntryAt v at → (r r' : Outcome Opened) → enter lo hi at r → enter' lo hi at r' → r ≡ r'
-  pub reads : (rules : Rules) (lo hi : ℕ) (i : Item) (v : Spans) → Handed step lo₀ hi₀ rules lo hi i ⊎ Handed step' lo₀ hi₀ rules lo hi i → ValueOf i v → Outside b e (itemStart i) (itemEnd i) → NotOwner b e v → (at : ℕ) → EntryAt v at → (r r' : Outcome Scalar) → read lo hi at r → read' lo hi at r' → r ≡ r'
-  pub parts : (rules : Rules) (lo hi : ℕ) (i : Item) (v : Spans) → Handed step lo₀ hi₀ rules lo hi i ⊎ Handed step' lo₀ hi₀ rules lo hi i → ValueOf i v → Outside b e (itemStart i) (itemEnd i) → NotOwner b e v → (at : ℕ) → EntryAt v at → (r r' : List ℕ) → bytes lo hi at r → bytes' lo hi at r' → r ≡ r'
+  -- "Both maps get the same calls, with the same arguments beside map and cursor": as many step calls, from the start of the part lo..hi on
+  pub record Calls (rules : Rules) (lo hi : ℕ) (rs rs' : List Stepped) : Type ℓ where
+    pub many : length rs ≡ length rs'
+    pub run : Run (E .step rules) (cursor lo hi) rs
+    pub run' : Run (E' .step rules) (cursor lo hi) rs'
+
+  -- The same answers outside the body: to step calls on a part that "neither is that body nor lies in it", with the pads that the next call skips; to
+  -- annotation steps on a value that does not lie in the body, "the owner's included"; to stepping in likewise, "the owner counts as outside"; to the scalar
+  -- reading, with the bytes of its part, of a value that "neither owns the body nor lies in it". And what was overwritten keeps its span: in both maps its
+  -- owner is handed out by as many calls, and so is a pad skipped.
+  pub record SameAnswers : Type ℓ where
+    pub steps : (rules : Rules) (lo hi : ℕ) → EitherPart rules lo hi → Outside b e lo hi
+        → (rs rs' : List Stepped) → Calls rules lo hi rs rs' → rs ≡ rs'
+    pub pads : (rules : Rules) (lo hi : ℕ) → EitherPart rules lo hi → Outside b e lo hi
+        → (rs rs' : List Stepped) → Calls rules lo hi rs rs' → padsAfter rules (E .map) lo hi rs ≡ padsAfter rules (E' .map) lo hi rs'
+    pub annotations : (rules : Rules) (lo hi : ℕ) (v : Spans) → EitherValue rules lo hi v → (rs rs' : List (Outcome Annotated)) → length rs ≡ length rs'
+        → AnnotationRun (E .annotation (v .descriptor)) (v .annotations) rs → AnnotationRun (E' .annotation (v .descriptor)) (v .annotations) rs'
+        → rs ≡ rs'
+    pub enterings : (rules : Rules) (lo hi : ℕ) (v : Spans) → EitherValue rules lo hi v → (at : ℕ) → EntryAt v at
+        → (r r' : Outcome Opened) → E .entering lo hi at r → E' .entering lo hi at r' → r ≡ r'
+    pub readings : (rules : Rules) (lo hi : ℕ) (v : Spans) → EitherValue rules lo hi v → NotOwner b e v → (at : ℕ) → EntryAt v at
+        → (r r' : Outcome Scalar) → E .reading lo hi at r → E' .reading lo hi at r' → r ≡ r'
+    pub parts : (rules : Rules) (lo hi : ℕ) (v : Spans) → EitherValue rules lo hi v → NotOwner b e v → (at : ℕ) → EntryAt v at
+        → (r r' : List ℕ) → E .bytes lo hi at r → E' .bytes lo hi at r' → r ≡ r'
+    pub owner : (rules : Rules) (lo hi : ℕ) → EitherPart rules lo hi → (i : Item) (v : Spans) → ValueOf i v → v .body ≡ b → v .end ≡ e
+        → (rs rs' : List Stepped) → Calls rules lo hi rs rs' → Iff (List·Memᴰ i (items rs)) (List·Memᴰ i (items rs'))
+    pub pad : (rules : Rules) (lo hi : ℕ) → EitherPart rules lo hi → (p : Pad) → p .body ≡ b → p .end ≡ e
+        → (rs rs' : List Stepped) → Calls rules lo hi rs rs'
+        → Iff (List·Memᴰ p (padsAfter rules (E .map) lo hi rs)) (List·Memᴰ p (padsAfter rules (E' .map) lo hi rs'))

@@ -2,10 +2,17 @@
 -- Assumes nothing.
 use Prim.Native.Nat.{ℕ}
 use mathlib.Core.List.{List}
-use Rattle.stepping.specs.Runs.{Answers}
-use Rattle.runs.specs.Reached.{ReachedBody, Agree, In, Annotations, Opens, Readings, Bytes, SameAnswers}
+use Rattle.runs.specs.Reached.{ReachedBody, Agree, In, ByRules, SameAnswers}
 
 -- Demand 3, second half: of every two maps of one length, alike outside one body that calls on the first reach, whichever part of them is the stream: outside
--- that body the six entries give the same answers.
+-- that body the six entries give the same answers, and what was overwritten keeps its span.
 abbrev pub Overwriting : Type 0
-Overwriting = (s s' : List ℕ) (lo₀ hi₀ b e : ℕ) → ReachedBody s (λ rules. Answers rules s) lo₀ hi₀ b e → Agree s s' (In b e) → SameAnswers (λ rules. Answers rules s) (λ rules. Answers rules s') (Annotations s) (Annotations s') (Opens s) (Opens s') (Readings s) (Readings s') (Bytes s) (Bytes s') lo₀ hi₀ b e
+Overwriting =
+    (s s' : List ℕ) (lo₀ hi₀ b e : ℕ)
+    → ReachedBody s (ByRules s .step) lo₀ hi₀ b e → Agree s s' (In b e) → SameAnswers (ByRules s) (ByRules s') lo₀ hi₀ b e
+
+-- The body is reached on the second map too.
+abbrev pub StillReached : Type 0
+StillReached =
+    (s s' : List ℕ) (lo₀ hi₀ b e : ℕ)
+    → ReachedBody s (ByRules s .step) lo₀ hi₀ b e → Agree s s' (In b e) → ReachedBody s' (ByRules s' .step) lo₀ hi₀ b e

@@ -12,7 +12,7 @@ use Rattle.framing.specs.Spans.{Spans}
 use Rattle.framing.specs.Answers.{peekedDescriptor, lengthAt, valueCode, badFloat, shortTimestamp, emptyOrdered, lengthTests, valueLength, fitting, valueWithoutAnnotations, padded, padAt, valueAt, frameAt, readFrame}
 use Rattle.stepping.specs.Items.{finish, marker, value, field, Pad}
 use Rattle.stepping.specs.Answers.{markerAt, framedAt, namedAt, fieldAt, tileAt, skipPads, found, Stepped, stepOf}
-use Rattle.stepping.specs.Runs.{cursor, Answers, Run, none, call, Tiles}
+use Rattle.stepping.specs.Runs.{cursor, Answers, Run, none, call, skipped, handed, Tiles}
 use Rattle.stepping.specs.declared.cursor.Cursor.{Cursor}
 use Rattle.stepping.specs.declared.cursor.Rules.{Rules}
 use Rattle.stepping.specs.declared.cursor.Rules.the-variants.{Stream, Sequence, Fields}
@@ -48,7 +48,12 @@ marked-run = refl
 
 -- what these calls hand out tiles the part, with the pad before the marker
 pub marked-tiled :
-    Tiles Stream marked 7 0 (marker 1 1 0 5 ∷ value (record { byte = 177; start = 5; annotations = 5; descriptor = 5; body = 6; end = 7 }) ∷ []) 7
+    Tiles Stream marked 7 0
+    (skipped (record { start = 0; body = 1; end = 1 })
+    ∷ handed (marker 1 1 0 5)
+    ∷ handed (value (record { byte = 177; start = 5; annotations = 5; descriptor = 5; body = 6; end = 7 }))
+    ∷ [])
+    7
 unfolding calls stepOf found skipPads tileAt markerAt framedAt readFrame peekedDescriptor frameAt padAt padded valueAt valueWithoutAnnotations valueLength lengthAt lengthTests valueCode badFloat shortTimestamp emptyOrdered fitting descriptorOf kindOf outsideOf
 marked-tiled = tiling Stream marked 0 7 (calls 4 Stream marked (cursor 0 7)) (calls-run 4 Stream marked (cursor 0 7)) .upToLast
 

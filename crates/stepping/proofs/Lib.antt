@@ -2,7 +2,8 @@ pub mod Places
 pub mod PadSkipping
 pub mod Spans
 pub mod Tiling
-pub mod Passed
+pub mod Soundness
+pub mod Completeness
 pub mod Examples
 pub mod Moves
 pub mod Naming

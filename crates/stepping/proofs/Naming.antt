@@ -16,7 +16,7 @@ use Rattle.framing.specs.Spans.{Spans}
 use Rattle.framing.specs.Answers.{Frame, padding, valued, readFrame}
 use Rattle.framing.proofs.Bounds.{FrameIn, pad-in, value-in, frame-each}
 use Rattle.stepping.specs.Items.{Item, finish, value}
-use Rattle.stepping.specs.Answers.{Tile, skip, hand, markerAt, asTile, framedAt, asField, namedAt, fieldAt, tileAt, Found, stop, onTile, skipPads, found, stepOf, answerAt}
+use Rattle.stepping.specs.Answers.{Tile, skip, hand, versionPasses, markerAt, asTile, framedAt, asField, namedAt, fieldAt, tileAt, Found, stop, onTile, skipPads, found, stepOf, answerAt}
 use Rattle.stepping.specs.Names.{followed, fieldId, nameAt, nameFrom, itemBy, tileBy, tileBehind, isMarker, tileFrom, foundFrom, answerFrom}
 use Rattle.stepping.specs.Private.Tiles.{handed}
 use Rattle.stepping.specs.declared.cursor.Rules.{Rules}
@@ -108,7 +108,10 @@ framed-onward rules at next end id h (value-in {v} o) = given hands
 
 marked-onward : (s : List ℕ) (at end : ℕ) → Each (Onward at end) (markerAt s at end)
 unfolding markerAt
-marked-onward s at end = each-refuse (ltb (end - at) 4) 2 at (λ _. each-refuse (not (eqb (getD s (at + 3) 0) 234)) 21 at (λ _. given hands))
+marked-onward s at end =
+    each-refuse (ltb (end - at) 4) 2 at (λ _.
+    each-refuse (not (eqb (getD s (at + 3) 0) 234)) 21 at (λ _.
+    each-refuse (not (versionPasses (getD s (at + 1) 0) (getD s (at + 2) 0))) 21 at (λ _. given hands)))
 
 tile-onward : (rules : Rules) (s : List ℕ) (at end : ℕ) (u : Unsigned) → Each (Onward at end) (tileFrom rules s at end u)
 unfolding tileFrom tileBehind

@@ -16,7 +16,7 @@ use Rattle.framing.specs.Spans.{Spans}
 use Rattle.framing.proofs.Bounds.{FrameIn, pad-in, value-in, frame-each, PaddedAt, Ordered}
 use Rattle.framing.proofs.Refusing.{frame-proper}
 use Rattle.stepping.specs.Items.{Item, marker, value, field, itemEnd}
-use Rattle.stepping.specs.Answers.{Tile, skip, hand, markerAt, framedAt, asTile, namedAt, asField, fieldAt, tileAt}
+use Rattle.stepping.specs.Answers.{Tile, skip, hand, versionPasses, markerAt, framedAt, asTile, namedAt, asField, fieldAt, tileAt}
 use Rattle.stepping.specs.declared.cursor.Rules.{Rules}
 use Rattle.stepping.specs.declared.cursor.Rules.the-variants.{Stream, Sequence, Fields}
 
@@ -41,7 +41,8 @@ unfolding markerAt
 marker-each s at end =
     each-refuse (ltb (end - at) 4) 2 at (λ l.
     each-refuse (not (eqb (getD s (at + 3) 0) 234)) 21 at (λ _.
-    given (hand-in (a-marker (omega arith) (omega (arith, ltb-false (end - at) 4 l))))))
+    each-refuse (not (versionPasses (getD s (at + 1) 0) (getD s (at + 2) 0))) 21 at (λ _.
+    given (hand-in (a-marker {e = at + 4} (omega arith) (omega (arith, ltb-false (end - at) 4 l)))))))
 
 -- of a frame that begins at `next`, after a field ID or after nothing
 framed-each : (at next end : ℕ) → at ≤ next → {f : Frame} → FrameIn next end f → (id : ℕ) → Each (TileIn at end) (asTile f) × Each (TileIn at end) (asField id at f)
@@ -96,7 +97,8 @@ unfolding tileAt framedAt fieldAt namedAt markerAt
 tile-proper Stream s at end h k =
     proper-pick (eqb (getD s at 0) 224)
     (proper-refuse (ltb (end - at) 4) 2 at (λ e. omega arith) (λ _.
-    proper-refuse (not (eqb (getD s (at + 3) 0) 234)) 21 at (λ e. omega arith) (λ _. gave)))
+    proper-refuse (not (eqb (getD s (at + 3) 0) 234)) 21 at (λ e. omega arith) (λ _.
+    proper-refuse (not (versionPasses (getD s (at + 1) 0) (getD s (at + 2) 0))) 21 at (λ e. omega arith) (λ _. gave))))
     (proper-then (frame-each s at end) (frame-proper s end k at h) (λ f i. frame-as-tile f 0 at .0))
 tile-proper Sequence s at end h k = proper-then (frame-each s at end) (frame-proper s end k at h) (λ f i. frame-as-tile f 0 at .0)
 tile-proper Fields s at end h k =

@@ -5,6 +5,7 @@ pub mod Read
 pub mod Kinds
 pub mod Leaving
 pub mod Format
+pub mod Meaning
 pub mod Runs
 pub mod Theorems
 pub mod Private

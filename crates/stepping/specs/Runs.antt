@@ -2,11 +2,13 @@
 -- Assumes nothing.
 use Prim.Native.Nat.{ℕ}
 use mathlib.Core.Path.{_≡_}
+use mathlib.Core.Bool.{Bool, true, false}
 use mathlib.Core.List.{List, [], _∷_, List·Memᴰ}
-use Rattle.numbers.specs.Outcome.{Outcome, gives, refuses}
+use Rattle.numbers.specs.Outcome.{Outcome, gives, refuses, pick}
 use Rattle.stepping.specs.Items.{Item, finish, marker, value, field, itemEnd, Pad}
-use Rattle.stepping.specs.Answers.{Stepped, stepOf}
+use Rattle.stepping.specs.Answers.{found, Stepped, stepOf}
 use Rattle.stepping.specs.Format.{PadAt, ItemAt}
+use Rattle.stepping.specs.Meaning.{PadWithin, ItemWithin}
 use Rattle.stepping.specs.declared.cursor.Cursor.{Cursor}
 use Rattle.stepping.specs.declared.cursor.Rules.{Rules}
 
@@ -42,26 +44,41 @@ abbrev pub lastEnd : ℕ → List Item → ℕ
 lastEnd lo [] = lo
 lastEnd lo (i ∷ is) = lastEnd (itemEnd i) is
 
+-- a span of a run: a pad that a call skipped, or an item that it handed out
+pub data Piece : Type 0 where
+  skipped : Pad → Piece
+  handed : Item → Piece
+
+abbrev pub skippedAll : List Pad → List Piece → List Piece
+skippedAll [] rest = rest
+skippedAll (p ∷ ps) rest = skipped p ∷ skippedAll ps rest
+
+-- the spans of a call that skips these pads and has this answer, in front of those of the calls behind it: the pads and the item; of a refusal nothing, since
+-- the next call begins where this one did; of an end its pads, where the whole part is asked for
+abbrev pub ofCall : Bool → List Pad → Outcome Item → List Piece → List Piece
+ofCall toEnd pads (gives (finish p)) rest = pick toEnd (skippedAll pads rest) rest
+ofCall toEnd pads (gives (marker a major minor e)) rest = skippedAll pads (handed (marker a major minor e) ∷ rest)
+ofCall toEnd pads (gives (value v)) rest = skippedAll pads (handed (value v) ∷ rest)
+ofCall toEnd pads (gives (field id a v)) rest = skippedAll pads (handed (field id a v) ∷ rest)
+ofCall toEnd pads (refuses number position) rest = rest
+
+-- the spans of a run from the cursor c on: each call skips the pads that its definition lists
+abbrev pub pieces : Bool → Rules → List ℕ → Cursor → List Stepped → List Piece
+pieces toEnd rules s c [] = []
+pieces toEnd rules s c (r ∷ rs) = ofCall toEnd (found rules s c .pads) (r .answer) (pieces toEnd rules s (r .next) rs)
+
 -- "Tiled up to a place: the first span begins at the part's start, each next one where the one before ends, the last ends there": from a to z the bytes are
--- these items, in this order, and pads. "With no span at all, the place is the part's start too."
-pub data Tiles (rules : Rules) (s : List ℕ) (hi : ℕ) : ℕ → List Item → ℕ → Type 0 where
+-- these spans, each of the document and within the limits. "With no span at all, the place is the part's start too."
+pub data Tiles (rules : Rules) (s : List ℕ) (hi : ℕ) : ℕ → List Piece → ℕ → Type 0 where
   empty : {a : ℕ} → Tiles rules s hi a [] a
-  pad : {p : Pad} {z : ℕ} {is : List Item} → PadAt rules s hi p → Tiles rules s hi (p .end) is z → Tiles rules s hi (p .start) is z
-  item : {a z : ℕ} {i : Item} {is : List Item} → ItemAt s hi rules a i → Tiles rules s hi (itemEnd i) is z → Tiles rules s hi a (i ∷ is) z
+  pad : {p : Pad} {z : ℕ} {ps : List Piece} (t : PadAt rules s hi p)
+      → PadWithin t → Tiles rules s hi (p .end) ps z → Tiles rules s hi (p .start) (skipped p ∷ ps) z
+  item : {a z : ℕ} {i : Item} {ps : List Piece} (t : ItemAt s hi rules a i)
+      → ItemWithin t → Tiles rules s hi (itemEnd i) ps z → Tiles rules s hi a (handed i ∷ ps) z
 
 -- the answers rs tile the part lo..hi: up to the end of the last item; and where a call says end, items and pads tile the whole part, and its position is
 -- the part's end
 pub record Tiled (rules : Rules) (s : List ℕ) (lo hi : ℕ) (rs : List Stepped) : Type 0 where
-  pub upToLast : Tiles rules s hi lo (items rs) (lastEnd lo (items rs))
-  pub atEnd : (p : ℕ) (next : Cursor) → List·Memᴰ (record { answer = gives (finish p); next = next }) rs → (p ≡ hi) × Tiles rules s hi lo (items rs) hi
-
--- the pads that a step passes, from its cursor's place a to the place z of what it then finds: "at a step's cursor or where the pad skipped before it ends"
-pub data Passes (rules : Rules) (s : List ℕ) (hi : ℕ) : ℕ → List Pad → ℕ → Type 0 where
-  arrived : {a : ℕ} → Passes rules s hi a [] a
-  past : {p : Pad} {ps : List Pad} {z : ℕ} → PadAt rules s hi p → Passes rules s hi (p .end) ps z → Passes rules s hi (p .start) (p ∷ ps) z
-
--- what it then finds at z: the part's end, an item or what it refuses
-pub data Stands (rules : Rules) (s : List ℕ) (hi z : ℕ) : Outcome Item → Type 0 where
-  the-end : z ≡ hi → Stands rules s hi z (gives (finish hi))
-  the-item : {i : Item} → ItemAt s hi rules z i → Stands rules s hi z (gives i)
-  refused-there : {number position : ℕ} → Stands rules s hi z (refuses number position)
+  pub upToLast : Tiles rules s hi lo (pieces false rules s (cursor lo hi) rs) (lastEnd lo (items rs))
+  pub atEnd : (p : ℕ) (next : Cursor) → List·Memᴰ (record { answer = gives (finish p); next = next }) rs
+      → (p ≡ hi) × Tiles rules s hi lo (pieces true rules s (cursor lo hi) rs) hi

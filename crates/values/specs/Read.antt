@@ -7,7 +7,8 @@ use Rattle.values.specs.Scalars.{Opened, ReadValue, Scalar, null, bool, 
 use Rattle.values.specs.declared.value.Body.{Body}
 use Rattle.values.specs.declared.value.Body.the-variants.{Open, Refused as BodyRefused}
 use Rattle.values.specs.declared.value.Scalar.{Scalar as ScalarEnum}
-use Rattle.values.specs.declared.value.Scalar.the-variants.{Null, Bool, Int, Float, Decimal, Timestamp, Symbol, Text, Clob, Blob, Container, Refused as ScalarRefused}
+use Rattle.values.specs.declared.value.Scalar.the-variants.{Null, Bool, Int, Float, Decimal, Timestamp, Symbol}
+use Rattle.values.specs.declared.value.Scalar.the-variants.{Text, Clob, Blob, Container, Refused as ScalarRefused}
 use Rattle.values.specs.declared.value.ValueRead.{ValueRead}
 use Rattle.values.specs.declared.value.ValueRead.the-variants.{Read as ValueWith, Refused as ValueRefused}
 

@@ -12,8 +12,8 @@ use Rattle.framing.specs.Answers.{noValue, valueCode, badFloat, shortTim
 unfoldable pub inlineLength : ℕ → ℕ → ℕ
 inlineLength type code = pick (ltb type 2) 0 (pick (eqb code 15) 0 code)
 
--- whether a descriptor tells its value's length by itself: it begins a value, no VarUInt is read ("14 reads a VarUInt", "Struct code 1 (ordered) reads a VarUInt"),
--- and 30 and 31 do not refuse it; no byte has a length code above 15
+-- whether a descriptor tells its value's length by itself: it begins a value, no VarUInt is read ("14 reads a VarUInt", "Struct code 1 (ordered) reads a
+-- VarUInt"), and 30 and 31 do not refuse it; no byte has a length code above 15
 unfoldable pub hasInlineLength : ℕ → ℕ → Bool
 hasInlineLength type code =
     pick (ltb 15 code) false

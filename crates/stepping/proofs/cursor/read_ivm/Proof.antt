@@ -52,6 +52,7 @@ refused-requires-3 c κs = search needs
 
 -- every marker passes
 returns-3 : tie.Need-returns-3
+unfolding markerAt
 returns-3 c = absurd (true≢false (sym (c .before .before .version-passes .ensures) ∙ not-true _ (c .before .if3 .taken)))
 
 add-after : tie.Need-add-after
