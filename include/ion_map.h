@@ -107,7 +107,7 @@ enum {
     ION_MAP_REFUSAL_NO_VALUE_LEFT = 1,         /* nothing after annotations - there */
     ION_MAP_REFUSAL_MARKER_CUT = 2,            /* a marker under 4 bytes - its start */
     ION_MAP_REFUSAL_VAR_UINT_CUT = 3,          /* a VarUInt, such as a length or an ID, without a last byte - the end of the part */
-    ION_MAP_REFUSAL_ANNOTATIONS_CUT = 5,       /* annotations that run past the part - after their length */
+    ION_MAP_REFUSAL_ANNOTATIONS_CUT = 5,       /* annotations of up to 255 bytes that run past the part - after their length */
     ION_MAP_REFUSAL_PAD_CUT = 6,               /* a pad that runs past the part - after its length */
     ION_MAP_REFUSAL_FIELD_CUT = 7,             /* a field ID with nothing after it - there */
     ION_MAP_REFUSAL_VALUE_CUT = 8,             /* a value that runs past the part - its descriptor */
@@ -119,7 +119,7 @@ enum {
     ION_MAP_REFUSAL_NO_ANNOTATIONS = 23,       /* an annotations' length of 0 - the wrapper */
     ION_MAP_REFUSAL_ANNOTATIONS_TOO_LONG = 24, /* annotations longer than their wrapper - the wrapper */
     ION_MAP_REFUSAL_NO_ROOM_FOR_VALUE = 25,    /* a wrapper with no room for a value - the wrapper */
-    ION_MAP_REFUSAL_TOO_MANY_ANNOTATIONS = 26, /* annotations of over 255 bytes - the wrapper */
+    ION_MAP_REFUSAL_TOO_MANY_ANNOTATIONS = 26, /* annotations of over 255 bytes, also if they run past the part - the wrapper */
     ION_MAP_REFUSAL_WRAPPER_IN_WRAPPER = 27,   /* a wrapper in a wrapper - the inner one */
     ION_MAP_REFUSAL_PAD_IN_WRAPPER = 28,       /* a pad in a wrapper - the pad */
     ION_MAP_REFUSAL_WRAPPED_LENGTH_DIFFERS = 29, /* a value that doesn't end where its wrapper does - the wrapper */

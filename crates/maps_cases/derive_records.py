@@ -5,8 +5,9 @@
     ./derive_records.py check                                                     compares the files with what would be written
     ./derive_records.py questions | oracle/answer | ./derive_records.py compare   asks ion-rust what it has an entry for
 
-What a value, a pad or a wrapper is and where it is refused comes from ../mapspans_cases/derive.py, which follows the scope paper. The records follow the
-paper's "Record", "Scalars" and "VarUInt, VarInt, Int", the kinds 5 to 8 the tables of include/ion_map.h. Nothing is shared with the reader that is compared.
+What a value, a pad or a wrapper is and where it is refused comes from ../mapspans_cases/derive.py, which follows the scope paper and the change requests after
+it. The records follow the paper's "Record", "Scalars" and "VarUInt, VarInt, Int", the kinds 5 to 8 the tables of include/ion_map.h. Nothing is shared with the
+reader that is compared.
 """
 
 import struct
@@ -239,10 +240,10 @@ def answer(question):
 
 
 def told(name, data, words):
-    """A record as the oracle writes it: ion-rust has no position for 20 and up."""
+    """A record as the oracle writes it."""
     kind, *rest = words
     if kind == REFUSED:
-        return f"refused {rest[0]} {rest[1] if rest[0] < 20 else '?'}"
+        return f"refused {rest[0]} {rest[1]}"
     if kind == END:
         return "end" if name == "annotation" else f"end {rest[1]}"
     if kind == MARKER:
@@ -318,8 +319,8 @@ def is_nan(answer):
 
 
 def same(ours, theirs):
-    """Equal but for the mark of an answer that is the oracle's own."""
-    return ours.removesuffix(" !") == theirs.removesuffix(" !") or is_nan(ours) and is_nan(theirs)
+    """Equal, or both a NaN."""
+    return steps.same(ours, theirs) or is_nan(ours) and is_nan(theirs)
 
 
 # ===== Files =====

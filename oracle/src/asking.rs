@@ -17,6 +17,7 @@ use crate::lazy::raw_stream_item::RawStreamItem;
 use crate::lazy::raw_value_ref::{RawSymbolRef, RawValueRef};
 use crate::lazy::streaming_raw_reader::RawReaderState;
 use crate::refusals;
+use crate::requests::Request;
 use crate::{Int, IonError, IonType};
 
 /// The deepest level of the walk: a container there is handed out and not entered.
@@ -34,14 +35,24 @@ pub struct Refusal {
     pub position: Option<usize>,
     /// The harness's answer, not the Rust's.
     pub own: bool,
+    /// The change request by which it is another than the Rust's.
+    pub moved: Option<Request>,
 }
 
 impl Refusal {
-    fn own(number: u32, position: Option<usize>) -> Self {
+    pub fn own(number: u32, position: Option<usize>) -> Self {
         Refusal {
             number,
             position,
             own: true,
+            moved: None,
+        }
+    }
+
+    pub fn moved(request: Request, number: u32, position: usize) -> Self {
+        Refusal {
+            moved: Some(request),
+            ..Refusal::own(number, Some(position))
         }
     }
 }
@@ -53,6 +64,7 @@ impl From<IonError> for Refusal {
             number,
             position,
             own: false,
+            moved: None,
         }
     }
 }
@@ -180,13 +192,26 @@ impl<'a> Asked<'a> {
         })
     }
 
+    pub fn at(&self) -> usize {
+        self.at
+    }
+
+    pub fn bytes(&self, start: usize, end: usize) -> &'a [u8] {
+        &self.bytes[start..end]
+    }
+
     /// The whole part as the Rust's buffer.
     pub fn part(&self) -> BinaryBuffer<'a> {
         self.part_from(self.at)
     }
 
     fn part_from(&self, at: usize) -> BinaryBuffer<'a> {
-        BinaryBuffer::new_with_offset(self.context, &self.bytes[at..self.end], at)
+        self.within(at, self.end)
+    }
+
+    /// A part of the part.
+    pub fn within(&self, start: usize, end: usize) -> BinaryBuffer<'a> {
+        BinaryBuffer::new_with_offset(self.context, self.bytes(start, end), start)
     }
 
     fn reader(&self) -> LazyRawBinaryReader_1_0<'a> {

@@ -1,11 +1,13 @@
 //! Reads questions, one a line, asks the Rust, and prints `QUESTION = ANSWER`.
 //!
-//! Everything that this file answers by itself, because the Rust has no such entry, ends in ` !`.
+//! Everything that isn't the Rust's answer, because it has no such entry or a change request wants
+//! another, ends in ` !`.
 
 use crate::asking::{self, Annotation, Annotations, Asked, Item, Line, Number};
 use crate::asking::{Refusal, Rules, Scalar, Spans, Steps};
 use crate::lazy::binary::raw::type_descriptor::TypeDescriptor;
 use crate::lazy::expanded::EncodingContext;
+use crate::requests;
 use crate::IonType;
 use std::cell::RefCell;
 use std::io::{self, BufRead, Write};
@@ -162,7 +164,9 @@ fn answer_part(kind: &str, asked: &Asked<'_>, third: usize, out: &mut Vec<u8>) {
         "sequence" => Ok(steps(asked, Rules::Sequence, third, out)),
         "struct" => Ok(steps(asked, Rules::Struct, third, out)),
         "annotations" => Ok(annotations(asked, third, out)),
-        "walk" => Ok(asking::walk(asked, &mut |line| say_line(line, out))),
+        "walk" => Ok(asking::walk(asked, &mut |line| {
+            say_line(requests::line(asked, line), out)
+        })),
         "scalar" => asking::scalar(asked, third).map(|reading| say_scalar(reading.scalar, out)),
         _ => asking::step_in(asked, third).map(|opened| {
             let kind = if opened.is_struct {
@@ -174,7 +178,7 @@ fn answer_part(kind: &str, asked: &Asked<'_>, third: usize, out: &mut Vec<u8>) {
         }),
     };
     if let Err(refusal) = given {
-        refuse(out, refusal);
+        refuse(out, requests::refusal(asked, refusal));
     }
 }
 
@@ -183,11 +187,20 @@ fn say(out: &mut Vec<u8>, text: std::fmt::Arguments<'_>) {
 }
 
 fn refuse(out: &mut Vec<u8>, refusal: Refusal) {
+    say_refusal(refusal, out);
+    mark(refusal.own, out);
+}
+
+fn say_refusal(refusal: Refusal, out: &mut Vec<u8>) {
     match refusal.position {
         Some(position) => say(out, format_args!("refused {} {position}", refusal.number)),
         None => say(out, format_args!("refused {} ?", refusal.number)),
     }
-    if refusal.own {
+}
+
+/// Ends a line whose last answer isn't the Rust's.
+fn mark(own: bool, out: &mut Vec<u8>) {
+    if own {
         say(out, format_args!(" !"));
     }
 }
@@ -301,7 +314,7 @@ fn say_item(item: Item, out: &mut Vec<u8>) {
             say_spans(spans, out)
         }
         Item::End(position) => say(out, format_args!("end {position}")),
-        Item::Refused(refusal) => refuse(out, refusal),
+        Item::Refused(refusal) => say_refusal(refusal, out),
     }
 }
 
@@ -313,10 +326,14 @@ fn between(out: &mut Vec<u8>, call: usize) {
 
 fn steps(asked: &Asked<'_>, rules: Rules, count: usize, out: &mut Vec<u8>) {
     let mut steps = Steps::new(asked, rules);
+    let mut own = false;
     for call in 0..count {
         between(out, call);
-        say_item(steps.next(), out);
+        let item = requests::item(asked, steps.next());
+        own = matches!(item, Item::Refused(refusal) if refusal.own);
+        say_item(item, out);
     }
+    mark(own, out);
 }
 
 fn annotations(asked: &Asked<'_>, count: usize, out: &mut Vec<u8>) {

@@ -41,6 +41,7 @@ pub mod v1_0 {
 pub mod asking;
 pub mod harness;
 pub mod refusals;
+pub mod requests;
 
 /// The Rust's own files that were compiled, with the hashes that the build found.
 pub const COMPILED: &str = include_str!(concat!(env!("OUT_DIR"), "/compiled.sha256"));

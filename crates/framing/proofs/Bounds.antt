@@ -115,8 +115,8 @@ wrapper-each s at end d h =
     each-refuse (eqb (u .value) 0) 23 at (λ z.
     each-refuse (ltb (l .size) (u .next - l .body + u .value)) 24 at (λ x.
     each-refuse (eqb (l .size) (u .next - l .body + u .value)) 25 at (λ y.
-    each-refuse (ltb (end - u .next) (u .value)) 5 (u .next) (λ f.
     each-refuse (ltb mostAnnotations (u .value)) 26 at (λ m.
+    each-refuse (ltb (end - u .next) (u .value)) 5 (u .next) (λ f.
     given
     (record {
       low = omega (arith, b .low, n .begins);

@@ -104,7 +104,7 @@ wrapper-complete s at end v w l =
     let fits : v .end ≤ end = omega (arith, w .value .fits, w .ends) in
     let all : w .combined ≡ v .end - w .after = w .all in
     rw
-    (code-complete s (at + 1) end (w .after) (codeAt s at) (w .combined) (w .field) (l .0), var-uint-complete s (w .after) end (v .annotations) (w .count) (l .1), ne-eqb n 0 (omega arith), le-ltb (w .combined) (v .annotations - w .after + n) (omega arith), ne-eqb (w .combined) (v .annotations - w .after + n) (omega arith), le-ltb (end - v .annotations) n (omega arith), le-ltb mostAnnotations n (omega (arith, l .2)))
+    (code-complete s (at + 1) end (w .after) (codeAt s at) (w .combined) (w .field) (l .0), var-uint-complete s (w .after) end (v .annotations) (w .count) (l .1), ne-eqb n 0 (omega arith), le-ltb (w .combined) (v .annotations - w .after + n) (omega arith), ne-eqb (w .combined) (v .annotations - w .after + n) (omega arith), le-ltb mostAnnotations n (omega (arith, l .2)), le-ltb (end - v .annotations) n (omega arith))
     (ap gives (wrapping-are (v .annotations) _ _ _ _ (sym d) (omega arith)))
 
 inner-complete : (s : List ℕ) (at end : ℕ) (v : Spans) → TypedValue s at end v → v .body ≤ at + 1 + mostBytes → andThen (peekedDescriptor s at end) (innerValue s at end) ≡ gives v

@@ -51,8 +51,8 @@ module _ (s : List ℕ) (end : ℕ) (k : end ≤ length s) where
       proper-refuse (eqb (u .value) 0) 23 at (λ e. omega arith) (λ _.
       proper-refuse (ltb (l .size) (u .next - l .body + u .value)) 24 at (λ e. omega arith) (λ _.
       proper-refuse (eqb (l .size) (u .next - l .body + u .value)) 25 at (λ e. omega arith) (λ _.
-      proper-refuse (ltb (end - u .next) (u .value)) 5 (u .next) (λ e. omega arith) (λ _.
-      proper-refuse (ltb mostAnnotations (u .value)) 26 at (λ e. omega arith) (λ _. gave)))))))
+      proper-refuse (ltb mostAnnotations (u .value)) 26 at (λ e. omega arith) (λ _.
+      proper-refuse (ltb (end - u .next) (u .value)) 5 (u .next) (λ e. omega arith) (λ _. gave)))))))
 
   inner-proper : (at : ℕ) → at ≤ end → Proper (andThen (peekedDescriptor s at end) (innerValue s at end))
   unfolding innerValue

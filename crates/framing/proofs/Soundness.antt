@@ -208,8 +208,8 @@ lengths-sound s at end l z field =
     each-refuse (eqb (u .value) 0) 23 at (λ a.
     each-refuse (ltb (l .size) (u .next - l .body + u .value)) 24 at (λ b.
     each-refuse (eqb (l .size) (u .next - l .body + u .value)) 25 at (λ c.
-    each-refuse (ltb (end - u .next) (u .value)) 5 (u .next) (λ d.
     each-refuse (ltb mostAnnotations (u .value)) 26 at (λ e.
+    each-refuse (ltb (end - u .next) (u .value)) 5 (u .next) (λ d.
     let more : u .next - l .body + u .value ≤ l .size = ltb-false (l .size) _ b in
     given
     (record {

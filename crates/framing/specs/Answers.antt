@@ -117,14 +117,14 @@ pub record Wrapping : Type 0 where
   pub value : ℕ
   pub expected : ℕ
 
--- "23, 24, 25, 5, 26", of the wrapper at `at`, its combined length and its annotations' length
+-- "23, 24, 25, 5, 26", of the wrapper at `at`, its combined length and its annotations' length; by the change request A.10, "let 26 come before 5"
 unfoldable pub wrapperTests : ℕ → ℕ → Sized → Unsigned → Outcome Wrapping
 wrapperTests at end combined u =
     refuseIf (eqb (u .value) 0) 23 at
     (refuseIf (ltb (combined .size) (u .next - combined .body + u .value)) 24 at
     (refuseIf (eqb (combined .size) (u .next - combined .body + u .value)) 25 at
-    (refuseIf (ltb (end - u .next) (u .value)) 5 (u .next)
     (refuseIf (ltb mostAnnotations (u .value)) 26 at
+    (refuseIf (ltb (end - u .next) (u .value)) 5 (u .next)
     (gives
     (record {
       annotations = u .next;

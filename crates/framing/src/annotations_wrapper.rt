@@ -65,16 +65,16 @@ fn check_wrapper(
             position: at,
         });
     }
-    if end - annotations < size {
-        return AnnotationsWrapper::Refused(Refusal {
-            number: ANNOTATIONS_CUT,
-            position: annotations,
-        });
-    }
     if MOST_ANNOTATIONS < size {
         return AnnotationsWrapper::Refused(Refusal {
             number: TOO_MANY_ANNOTATIONS,
             position: at,
+        });
+    }
+    if end - annotations < size {
+        return AnnotationsWrapper::Refused(Refusal {
+            number: ANNOTATIONS_CUT,
+            position: annotations,
         });
     }
     let value = annotations + size;

@@ -2,6 +2,7 @@
 
 use crate::ours::{Part, Record};
 use oracle::asking::{Annotation, Item, Number, Opened, Reading, Refusal, Scalar, Spans};
+use oracle::requests::Request;
 use oracle::IonType;
 
 /// Words, some of which the Rust leaves open, and a test of those.
@@ -13,6 +14,8 @@ pub struct Expected {
     test: Test,
     /// The harness's answer, not the Rust's.
     own: bool,
+    /// The change request by which it is another than the Rust's.
+    moved: Option<Request>,
 }
 
 #[derive(Clone, Copy, Debug)]
@@ -38,6 +41,7 @@ impl Expected {
             open: 0,
             test: Test::None,
             own: false,
+            moved: None,
         }
     }
 
@@ -48,6 +52,7 @@ impl Expected {
             open,
             test,
             own: false,
+            moved: None,
         }
     }
 
@@ -59,6 +64,7 @@ impl Expected {
         };
         Expected {
             own: refusal.own,
+            moved: refusal.moved,
             ..expected
         }
     }
@@ -222,6 +228,10 @@ impl Expected {
         self.own
     }
 
+    pub fn moved(&self) -> Option<Request> {
+        self.moved
+    }
+
     pub fn is_end(&self) -> bool {
         self.words[0] == 0
     }
@@ -299,11 +309,7 @@ fn long_int(
     let start = spans.body + zeros.count();
     let negative = spans.byte >> 4 == 3;
     if negative && start == spans.end {
-        return Expected::refused(Refusal {
-            number: 34,
-            position: Some(spans.descriptor),
-            own: true,
-        });
+        return Expected::refused(Refusal::own(34, Some(spans.descriptor)));
     }
     Expected::exactly(words(2, negative as u64, start, spans.end))
 }

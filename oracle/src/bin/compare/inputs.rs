@@ -357,12 +357,33 @@ fn wide_var_uint(random: &mut Random) -> Vec<u8> {
 
 fn long_annotations(random: &mut Random, number: usize) -> Vec<u8> {
     // Long, so rarer than the others.
-    let count = if number % 7 == 0 {
-        random.from_to(253, 258)
-    } else {
-        random.from_to(11, 15)
+    let count = match number % 7 {
+        0 => random.from_to(253, 258),
+        1 | 2 => return cut_annotations(random),
+        _ => random.from_to(11, 15),
     };
     random.annotated_by(count).bytes
+}
+
+/// A wrapper of about 255 bytes of annotations, or of many more, and a few of them.
+fn cut_annotations(random: &mut Random) -> Vec<u8> {
+    let count = match random.below(4) {
+        0 => random.pick(&[300, 16_383, 16_384, 1 << 32, (1 << 62) - 1]),
+        _ => random.from_to(253, 258) as u64,
+    };
+    let width = random.pick(&[1, 1, 1, 3, 9]);
+    let length = var_uint(count, width);
+    // With room for a value, and with too little.
+    let room = random.pick(&[0, 1, 1, 2, 2, 9, 200]);
+    let combined = var_uint(count + length.len() as u64 + room - 1, width);
+    let size = random.below(5);
+    let bytes = joined(&[&[0xEE], &combined, &length, &random.bytes(size)]);
+    if !random.one_in(6) {
+        return bytes;
+    }
+    // The list is what cuts them short: behind it are as many bytes.
+    let list = random.framed(11, &plain(bytes), false).bytes;
+    joined(&[&list, &[0xAE, 0x02, 0x84], &[0; 260]])
 }
 
 /// A length of 12 to 15 in the descriptor or after it, and about as many bytes.
@@ -431,7 +452,10 @@ fn float(random: &mut Random) -> Vec<u8> {
 
 fn text(random: &mut Random) -> Vec<u8> {
     let texts = format!("{GOOD_TEXTS} {BAD_TEXTS}");
-    let mut body = joined(&[&random.word(&texts), &random.word(&texts)]);
+    let mut body = random.word(&texts);
+    if !random.one_in(3) {
+        body.extend(random.word(&texts));
+    }
     if random.one_in(2) && !body.is_empty() {
         let at = random.below(body.len());
         body[at] = random.pick(&[

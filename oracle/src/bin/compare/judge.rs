@@ -6,12 +6,15 @@ use crate::question::{Ask, Entry, Question, INT, KINDS, VAR_UINT};
 use crate::walking::Walk;
 use oracle::asking::{self, Annotations, Asked, Line, Refusal, Rules, Steps};
 use oracle::lazy::expanded::EncodingContext;
+use oracle::requests::{self, Request, REQUESTS};
 
 #[derive(Clone, Copy, Debug, PartialEq)]
 pub enum Verdict {
     Agree,
     /// An int or Int of more than 15 bytes: as the Ion document has it, the Rust not asked.
     Apart,
+    /// As this change request has it, and another answer than the Rust's.
+    Moved(Request),
     Differ,
 }
 
@@ -20,6 +23,8 @@ pub enum Verdict {
 pub struct Tally {
     pub agreed: [u64; KINDS.len()],
     pub apart: u64,
+    /// By request.
+    pub moved: [u64; REQUESTS.len()],
     pub differ: u64,
     /// How often each refusal was expected.
     pub refusals: Refusals,
@@ -62,6 +67,7 @@ impl<R: Reader> Judge<R> {
             tally: Tally {
                 agreed: [0; KINDS.len()],
                 apart: 0,
+                moved: [0; REQUESTS.len()],
                 differ: 0,
                 refusals: Refusals {
                     all: [0; 64],
@@ -77,6 +83,7 @@ impl<R: Reader> Judge<R> {
         match verdict {
             Verdict::Agree => self.tally.agreed[question.kind(map)] += 1,
             Verdict::Apart => self.tally.apart += 1,
+            Verdict::Moved(request) => self.tally.moved[request as usize] += 1,
             Verdict::Differ => self.tally.differ += 1,
         }
         verdict
@@ -90,6 +97,7 @@ impl<R: Reader> Judge<R> {
             desk: &mut self.desk,
             refusals: &mut self.tally.refusals,
             map,
+            moved: None,
         };
         let verdict = bench.compare(question);
         // The Rust's values lie in the context's allocator.
@@ -176,17 +184,11 @@ struct Bench<'a, R> {
     desk: &'a mut Desk,
     refusals: &'a mut Refusals,
     map: &'a [u8],
+    /// The request that moved an answer. That one is a refusal, with which a question ends.
+    moved: Option<Request>,
 }
 
 const RULES: [Rules; 3] = [Rules::Stream, Rules::Sequence, Rules::Struct];
-
-fn verdict_of(fine: bool) -> Verdict {
-    if fine {
-        Verdict::Agree
-    } else {
-        Verdict::Differ
-    }
-}
 
 impl<'a, R: Reader> Bench<'a, R> {
     fn compare(&mut self, question: &Question) -> Verdict {
@@ -206,7 +208,15 @@ impl<'a, R: Reader> Bench<'a, R> {
             Ask::Walk => self.walk(part),
             Ask::Walked(most) => self.walked(part, most),
         };
-        verdict_of(fine)
+        self.verdict_of(fine)
+    }
+
+    fn verdict_of(&self, fine: bool) -> Verdict {
+        match (fine, self.moved) {
+            (false, _) => Verdict::Differ,
+            (true, Some(request)) => Verdict::Moved(request),
+            (true, None) => Verdict::Agree,
+        }
     }
 
     fn asked(&self, part: Part) -> Asked<'a> {
@@ -217,6 +227,7 @@ impl<'a, R: Reader> Bench<'a, R> {
         if expected.is_refusal() {
             self.refusals.count(expected.number(), expected.is_own());
         }
+        self.moved = self.moved.or(expected.moved());
     }
 
     /// Compares the record that a call filled, and what it returned.
@@ -235,12 +246,13 @@ impl<'a, R: Reader> Bench<'a, R> {
     }
 
     fn run(&mut self, part: Part, rules: u64) -> bool {
-        let mut steps = Steps::new(&self.asked(part), RULES[rules as usize]);
+        let asked = self.asked(part);
+        let mut steps = Steps::new(&asked, RULES[rules as usize]);
         let mut part = part;
         // The end and a refusal repeat: each is asked for twice.
         let mut ends = 0;
         while ends < 2 {
-            let expected = Expected::item(steps.next());
+            let expected = Expected::item(requests::item(&asked, steps.next()));
             let room = room_for(part);
             let returned = self
                 .reader
@@ -274,11 +286,12 @@ impl<'a, R: Reader> Bench<'a, R> {
         let mut count = UNSET;
         let lent = self.desk.lend(room);
         let returned = self.reader.steps(self.map, part, rules, lent, &mut count);
-        let mut steps = Steps::new(&self.asked(part), RULES[rules as usize]);
+        let asked = self.asked(part);
+        let mut steps = Steps::new(&asked, RULES[rules as usize]);
         let mut part = part;
         let mut wanted = (0, 0);
         while (wanted.0 as usize) < room / RECORD {
-            let expected = Expected::item(steps.next());
+            let expected = Expected::item(requests::item(&asked, steps.next()));
             if !self.check_slot(wanted.0 as usize, part, rules, &expected) {
                 return false;
             }
@@ -330,9 +343,10 @@ impl<'a, R: Reader> Bench<'a, R> {
     }
 
     fn step_in(&mut self, part: Part) -> bool {
-        let expected = match asking::step_in(&self.asked(part), part.position) {
+        let asked = self.asked(part);
+        let expected = match asking::step_in(&asked, part.position) {
             Ok(opened) => Expected::opened(opened),
-            Err(refusal) => Expected::refused(refusal),
+            Err(refusal) => Expected::refused(requests::refusal(&asked, refusal)),
         };
         let room = room_for(part);
         let returned = self.reader.step_in(self.map, part, self.desk.lend(room));
@@ -340,18 +354,22 @@ impl<'a, R: Reader> Bench<'a, R> {
     }
 
     fn scalar(&mut self, part: Part) -> Verdict {
-        let (expected, is_long) = match asking::scalar(&self.asked(part), part.position) {
+        let asked = self.asked(part);
+        let (expected, is_long) = match asking::scalar(&asked, part.position) {
             Ok(reading) => (
                 Expected::scalar(self.map, reading),
                 reading.scalar == asking::Scalar::LongInt,
             ),
-            Err(refusal) => (Expected::refused(refusal), false),
+            Err(refusal) => {
+                let refusal = requests::refusal(&asked, refusal);
+                (Expected::refused(refusal), false)
+            }
         };
         let room = room_for(part);
         let returned = self.reader.scalar(self.map, part, self.desk.lend(room));
         match self.check(part, room, returned, &expected) {
             true if is_long => Verdict::Apart,
-            fine => verdict_of(fine),
+            fine => self.verdict_of(fine),
         }
     }
 
@@ -377,7 +395,7 @@ impl<'a, R: Reader> Bench<'a, R> {
         };
         match self.check_number(part, INT, size, &expected) {
             true if is_long => Verdict::Apart,
-            fine => verdict_of(fine),
+            fine => self.verdict_of(fine),
         }
     }
 
@@ -391,8 +409,10 @@ impl<'a, R: Reader> Bench<'a, R> {
     fn walk(&mut self, part: Part) -> bool {
         let mut ours = Walk::new(part);
         let mut fine = true;
-        asking::walk(&self.asked(part), &mut |line| {
+        let asked = self.asked(part);
+        asking::walk(&asked, &mut |line| {
             if fine {
+                let line = requests::line(&asked, line);
                 fine = self.check_line(part, line, ours.next(self.reader, self.map));
             }
         });
@@ -403,6 +423,7 @@ impl<'a, R: Reader> Bench<'a, R> {
         let fine = match (rust, ours) {
             (Line::Refused(rust), Line::Refused(ours)) => {
                 self.refusals.count(rust.number as usize, rust.own);
+                self.moved = self.moved.or(rust.moved);
                 rust.number == ours.number && self.is_position(part, rust, ours)
             }
             _ => rust == ours,
@@ -440,11 +461,7 @@ impl<'a, R: Reader> Bench<'a, R> {
     // ===== What the caller does wrong: the harness knows the answer =====
 
     fn outside(&mut self, question: &Question) -> bool {
-        let expected = Expected::refused(Refusal {
-            number: 50,
-            position: Some(0),
-            own: true,
-        });
+        let expected = Expected::refused(Refusal::own(50, Some(0)));
         let part = question.part;
         let mut count = UNSET;
         let (entry, kind, size) = match question.ask {

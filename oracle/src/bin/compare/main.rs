@@ -17,6 +17,8 @@ mod walking;
 mod wrong;
 
 use inputs::{ask_all, seeds, Plan, FULL, SHORT, SMALLEST};
+use judge::Tally;
+use oracle::requests::REQUESTS;
 use ours::{Exports, Reader, MISSING};
 use question::KINDS;
 use session::{grouped, Session};
@@ -60,14 +62,22 @@ fn compare(plan: Plan, seed: u64) {
     let tally = &session.judge.tally;
     let (cases, differ) = (tally.cases(), tally.differ);
     let missing = missing_refusals(&tally.refusals.all);
+    let unmet: Vec<&str> = moved(tally)
+        .filter(|(_, count)| *count == 0)
+        .map(|(text, _)| text)
+        .collect();
     for number in &missing {
         println!("no refusal {number} was met");
+    }
+    for text in &unmet {
+        println!("not met: {text}");
     }
     for name in MISSING {
         println!("not in the archive, so not compared: {name}");
     }
     println!("{} cases agree, {differ} differ", grouped(cases));
-    exit((differ > 0 || !missing.is_empty() || !MISSING.is_empty()) as i32)
+    let is_all_met = missing.is_empty() && unmet.is_empty() && MISSING.is_empty();
+    exit((differ > 0 || !is_all_met) as i32)
 }
 
 fn missing_refusals(met: &[u64; 64]) -> Vec<usize> {
@@ -76,6 +86,11 @@ fn missing_refusals(met: &[u64; 64]) -> Vec<usize> {
         .flatten()
         .filter(|number| met[*number] == 0)
         .collect()
+}
+
+/// What each change request moves, and how many cases met it.
+fn moved(tally: &Tally) -> impl Iterator<Item = (&'static str, u64)> {
+    REQUESTS.into_iter().zip(tally.moved)
 }
 
 fn listed(counts: &[u64; 64]) -> String {
@@ -97,6 +112,9 @@ fn report<R: Reader>(session: &mut Session<R>) {
         "{:>13}  ints and Ints of more than 15 bytes, by the Ion document alone",
         grouped(tally.apart)
     );
+    for (text, count) in moved(&tally) {
+        println!("{:>13}  {text}", grouped(count));
+    }
     println!("by input:");
     for pair in session.stages.windows(2) {
         let [(name, began, before), (_, ended, after)] = [pair[0], pair[1]];
@@ -105,7 +123,7 @@ fn report<R: Reader>(session: &mut Session<R>) {
     }
     println!("refusals met (number:times):");
     println!("  {}", listed(&tally.refusals.all));
-    println!("of these, not the Rust's but the harness's answers:");
+    println!("of these, not the Rust's answers but the harness's or a change request's:");
     println!("  {}", listed(&tally.refusals.own));
     for case in session.differences() {
         println!("differs: {}", session.written(&case));

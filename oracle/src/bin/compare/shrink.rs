@@ -54,7 +54,7 @@ fn differs<R: Reader>(judge: &mut Judge<R>, case: &Case) -> bool {
     let verdict = catch_unwind(AssertUnwindSafe(|| {
         judge.verdict(&case.map, &case.question)
     }));
-    !matches!(verdict, Ok(Verdict::Agree | Verdict::Apart))
+    matches!(verdict, Ok(Verdict::Differ) | Err(_))
 }
 
 /// The case without some of its bytes, most of them first.

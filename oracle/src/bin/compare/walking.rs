@@ -87,6 +87,7 @@ fn refusal(number: u32, position: usize) -> Refusal {
         number,
         position: Some(position),
         own: false,
+        moved: None,
     }
 }
 

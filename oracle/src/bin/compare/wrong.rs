@@ -42,6 +42,9 @@ mistakes! {
     WrittenOffByOne "puts the position of a refused value one further"
     Annotations254 "refuses 255 bytes of annotations"
     Annotations256 "takes 256 bytes of annotations"
+    CutBeforeLimit "says 5 of annotations that are over the limit and cut short"
+    LimitForCut "says 26 of annotations that are cut short and not over the limit"
+    LimitBeforeRoom "says 26 of annotations over the limit that leave no room for a value"
     WrapperUnchecked "doesn't compare the wrapper's length with its value's"
     WrapperByte "gives the wrapper's byte for the value's"
     AnnotationsStart "lets the annotations begin at the wrapper"
@@ -318,6 +321,17 @@ impl Wrong {
             (Mistake::WrapperUnchecked, 29) | (Mistake::Annotations256, 26) => {
                 self.unwrapped(map, part, at, out, returned)
             }
+            (Mistake::CutBeforeLimit, 26) => match inside_wrapper(map, at, part.end) {
+                Some((annotations, inner)) if inner > part.end => refuse(out, 5, annotations),
+                _ => returned,
+            },
+            (Mistake::LimitForCut, 5) if map[part.position] >> 4 == 14 => {
+                refuse(out, 26, part.position)
+            }
+            (Mistake::LimitBeforeRoom, 25) => match inside_wrapper(map, at, part.end) {
+                Some((annotations, inner)) if inner - annotations > 255 => refuse(out, 26, at),
+                _ => returned,
+            },
             _ => returned,
         }
     }
@@ -327,7 +341,8 @@ impl Wrong {
         let Some((annotations, inner)) = inside_wrapper(map, at, part.end) else {
             return returned;
         };
-        if self.is(Mistake::Annotations256) && inner - annotations != 256 {
+        let is_256 = inner - annotations == 256 && inner <= part.end;
+        if self.is(Mistake::Annotations256) && !is_256 {
             return returned;
         }
         let returned = Exports.step(map, part.at(inner), SEQUENCE, out);

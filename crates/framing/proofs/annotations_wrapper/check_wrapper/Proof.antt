@@ -30,14 +30,14 @@ returns-3 c =
     rw
     (ne-eqb _ _ (c .before .before .if1 .left), le-ltb _ _ (c .before .if2 .left), eq-eqb _ _ (c .if3 .taken))
 
-sub-if4 : tie.Need-sub-if4
-sub-if4 c = search needs
-
 returns-4 : tie.Need-returns-4
 unfolding wrapperTests
 returns-4 c =
     rw
     (ne-eqb _ _ (c .before .before .before .if1 .left), le-ltb _ _ (c .before .before .if2 .left), ne-eqb _ _ (c .before .if3 .left), lt-ltb _ _ (c .if4 .taken))
+
+sub-if5 : tie.Need-sub-if5
+sub-if5 c = search needs
 
 returns-5 : tie.Need-returns-5
 unfolding wrapperTests
@@ -63,8 +63,8 @@ check-wrapper-spec =
     add-needed
     returns-2
     returns-3
-    sub-if4
     returns-4
+    sub-if5
     returns-5
     add-value
     returns-6)
