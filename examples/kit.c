@@ -1,4 +1,4 @@
-/* Asks every function of ion_map.h about one small map and checks the answers.
+/* Asks every function of ion_map.h about a small map, and the step about one that isn't Ion 1.0, and checks the answers.
 
      cc -std=c99 -O2 -I include examples/kit.c libmaps.a -o kit && ./kit
 
@@ -53,6 +53,8 @@ static void check_step(void)
     static const uint64_t field[] = {ION_MAP_KIND_FIELD, 0x21, 10, 11, 11, 12, 13, 5};
     static const uint64_t end[] = {ION_MAP_KIND_END, 0, 28, 0, 0, 0, 0, 0};
     static const uint64_t cut[] = {ION_MAP_KIND_REFUSED, ION_MAP_REFUSAL_VALUE_CUT, 13, 0, 0, 0, 0, 0};
+    static const uint8_t later[] = {0x00, 0xE0, 0x01, 0x01, 0xEA}; /* a pad, and a marker that isn't Ion 1.0's */
+    static const uint64_t other[] = {ION_MAP_KIND_REFUSED, ION_MAP_REFUSAL_NOT_VERSION_1_0, 1, 0, 0, 0, 0, 0};
     uint64_t byte;
 
     check("marker", ion_map_step(map, LENGTH, 0, LENGTH, 0, ION_MAP_PART_STREAM, record, sizeof record), 0);
@@ -70,6 +72,8 @@ static void check_step(void)
     check_words("end", record, end);
     check("cut", ion_map_step(map, 15, 0, 15, 13, ION_MAP_PART_STREAM, record, sizeof record), 8);
     check_words("cut", record, cut);
+    check("other version", ion_map_step(later, sizeof later, 0, sizeof later, 0, 0, record, sizeof record), 60);
+    check_words("other version", record, other);
     check("position outside", ion_map_step(map, LENGTH, 0, LENGTH, SIZE_MAX, 0, record, sizeof record), 50);
     check("short record", ion_map_step(map, LENGTH, 0, LENGTH, 0, 0, record, sizeof record - 1), 51);
 }

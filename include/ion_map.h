@@ -42,7 +42,7 @@ enum {
 
 enum {
     ION_MAP_KIND_END = 0,     /* nothing is left in the part */
-    ION_MAP_KIND_MARKER = 1,  /* a version marker; only in a stream */
+    ION_MAP_KIND_MARKER = 1,  /* the version marker of Ion 1.0; only in a stream */
     ION_MAP_KIND_VALUE = 2,   /* a value of a stream or a sequence */
     ION_MAP_KIND_FIELD = 3,   /* a value of a struct, with its field ID */
     ION_MAP_KIND_REFUSED = 9  /* no answer; the record says why and where */
@@ -65,7 +65,7 @@ enum {
 enum {
     ION_MAP_MARKER_BYTE = 1,  /* 224, which is E0 */
     ION_MAP_MARKER_START = 2, /* its first byte */
-    ION_MAP_MARKER_MAJOR = 3, /* the version's two numbers, whatever they are: 1 and 0 for Ion 1.0 */
+    ION_MAP_MARKER_MAJOR = 3, /* the version's two numbers, 1 and 0: a marker with others is refused */
     ION_MAP_MARKER_MINOR = 4,
     ION_MAP_MARKER_BODY = 5,  /* the same as its end: a marker has no body */
     ION_MAP_MARKER_END = 6    /* where it ends: the position for the next step */
@@ -127,6 +127,7 @@ enum {
     ION_MAP_REFUSAL_TIMESTAMP_TOO_SHORT = 31,  /* a timestamp under 2 bytes, not null - its descriptor */
     ION_MAP_REFUSAL_EMPTY_ORDERED_STRUCT = 32, /* an ordered struct without a body - its descriptor */
     ION_MAP_REFUSAL_TOO_DEEP = 37,             /* a walk's: a container at depth 32 - its descriptor */
+    ION_MAP_REFUSAL_NOT_VERSION_1_0 = 60,      /* a marker that ends in EA and whose two numbers aren't 1 and 0 - its start */
 
     /* The caller's own. */
     ION_MAP_REFUSAL_OUTSIDE = 50,              /* not start <= position <= end <= map_len, or a kind or form above 2 - 0 */
@@ -190,6 +191,7 @@ extern "C" {
    are END, MARKER, VALUE, FIELD and REFUSED.
 
    The same call gives the same answer: stepping on after an end says end, and a refused step stays refused.
+   A stream needs no marker, and a marker that isn't Ion 1.0's is refused: nothing behind it is read.
    A container is handed out whole, and what is in it is read only by steps through its body. Of a value's
    body and of annotations nothing is read here, so a value that is handed out may still be a bad one. */
 uint64_t ion_map_step(const uint8_t *map, size_t map_len, size_t start, size_t end, size_t position,

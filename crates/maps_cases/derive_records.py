@@ -30,7 +30,7 @@ NULL, BOOL, INT, FLOAT, DECIMAL, TIMESTAMP, SYMBOL, STRING, CLOB, BLOB, CONTAINE
 
 # Refusals that each function can answer with; data/ is to have each of them.
 FRAMING = {1, 3, 5, 8, 20, *range(22, 33)}
-STEPPING = FRAMING | {2, 6, 7, 21, 50, 51}
+STEPPING = FRAMING | {2, 6, 7, 21, 50, 51, 60}
 REFUSALS = {
     "step": STEPPING,
     "steps": STEPPING,

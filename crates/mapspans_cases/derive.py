@@ -125,6 +125,8 @@ def pad_end(data, at, end):
 def marker(data, at, end):
     refuse_if(end - at < 4, 2, at)
     refuse_if(data[at + 3] != 0xEA, 21, at)
+    # The change request A.2: by the scope paper any two numbers pass.
+    refuse_if((data[at + 1], data[at + 2]) != (1, 0), 60, at)
     return Item(MARKER, at, at, at + 4, at + 4)
 
 
@@ -384,9 +386,9 @@ def annotations():
 
 
 def markers():
-    """Between values, side by side, after pads, of any version, at the end."""
-    others = [h("E0 FF 07 EA"), h("E0 EA EA EA")]
-    return join(ZERO, VERSION, VERSION, SEVEN, pad(), others[0], pad(VERSION), others[1], list_of(ZERO), VERSION)
+    """Between values, side by side, after pads, at the end; a pad and a blob hold the bytes of one that isn't 1.0."""
+    other = h("E0 02 00 EA")
+    return join(ZERO, VERSION, VERSION, SEVEN, pad(), VERSION, pad(other), VERSION, typed(BLOB, other), list_of(ZERO), VERSION)
 
 
 def everything():
@@ -440,6 +442,7 @@ def refusals():
         "refused-01-end": VERSION + SEVEN + h("E3 81 84"),
         "refused-01-list": in_list(h("E3 81 84")),
         "refused-02": ZERO + VERSION + h("E0 01 00"),
+        "refused-02-other-version": SEVEN + h("E0 02"),
         "refused-03-end": SEVEN + h("8E 00 01"),
         "refused-03-list": in_list(h("2E") + bytes(10)),
         "refused-03-field": VERSION + struct_of(*fields(SEVEN), h("05 06")) + ZERO,
@@ -458,10 +461,12 @@ def refusals():
         "refused-20-field": VERSION + struct_of(*fields(SEVEN), ten, ZERO) + ZERO,
         "refused-20-wrapper": in_struct(h("E5") + ten),
         "refused-21": SEVEN + pad() + h("E0 01 00 EB") + ZERO,
+        "refused-21-other-version": h("E0 02 00 EB") + ZERO,
         "refused-22-stream": VERSION + SEVEN + pad(h("00")) + h("F0") + ZERO,
         "refused-22-marker-in-list": in_list(VERSION),
         "refused-22-marker-in-struct": in_struct(VERSION),
         "refused-22-marker-in-wrapper": ZERO + annotated(VERSION) + ZERO,
+        "refused-22-other-version-in-list": in_list(h("E0 02 00 EA")),
         "refused-23": in_struct(h("E2 80 20")),
         "refused-24-list": in_list(h("E2 82 84 85 20")),
         "refused-24-null-code": in_struct(h("EF 81 84 20")),
@@ -480,6 +485,13 @@ def refusals():
         "refused-30": in_struct(h("4E 84 00 00 00 00")),
         "refused-31": in_list(annotated(h("61 80"))),
         "refused-32": in_struct(annotated(h("D1 80"))),
+        "refused-60-smallest": h("E0 00 00 EA"),
+        "refused-60-major": h("E0 02 00 EA") + SEVEN,
+        "refused-60-minor": ZERO + h("E0 01 01 EA") + ZERO,
+        "refused-60-both": h("E0 FF 07 EA") + VERSION + SEVEN,
+        "refused-60-swapped": VERSION + h("E0 00 01 EA") + VERSION,
+        "refused-60-after-pad": h("00 E0 01 01 EA"),
+        "refused-60-after-items": join(VERSION, list_of(ZERO, SEVEN), struct_of(*fields(NAME)), pad(bytes(20)), h("E0 01 02 EA"), ZERO),
     }
 
 

@@ -149,6 +149,8 @@ pub struct Opened {
 pub enum Line {
     Marker {
         start: usize,
+        major: u8,
+        minor: u8,
         end: usize,
     },
     Value {
@@ -522,10 +524,15 @@ pub fn walk(asked: &Asked<'_>, line: &mut impl FnMut(Line)) {
     let mut reader = asked.reader();
     loop {
         match reader.next() {
-            Ok(RawStreamItem::VersionMarker(marker)) => line(Line::Marker {
-                start: marker.range().start,
-                end: marker.range().end,
-            }),
+            Ok(RawStreamItem::VersionMarker(marker)) => {
+                let (major, minor) = marker.major_minor();
+                line(Line::Marker {
+                    start: marker.range().start,
+                    major,
+                    minor,
+                    end: marker.range().end,
+                })
+            }
             Ok(RawStreamItem::Value(value)) => {
                 if walk_value(value, start_of(value), 0, line).is_err() {
                     return;

@@ -4,10 +4,10 @@
 //! another, ends in ` !`.
 
 use crate::asking::{self, Annotation, Annotations, Asked, Item, Line, Number};
-use crate::asking::{Refusal, Rules, Scalar, Spans, Steps};
+use crate::asking::{Refusal, Rules, Scalar, Spans};
 use crate::lazy::binary::raw::type_descriptor::TypeDescriptor;
 use crate::lazy::expanded::EncodingContext;
-use crate::requests;
+use crate::requests::{self, Steps};
 use crate::IonType;
 use std::cell::RefCell;
 use std::io::{self, BufRead, Write};
@@ -164,9 +164,7 @@ fn answer_part(kind: &str, asked: &Asked<'_>, third: usize, out: &mut Vec<u8>) {
         "sequence" => Ok(steps(asked, Rules::Sequence, third, out)),
         "struct" => Ok(steps(asked, Rules::Struct, third, out)),
         "annotations" => Ok(annotations(asked, third, out)),
-        "walk" => Ok(asking::walk(asked, &mut |line| {
-            say_line(requests::line(asked, line), out)
-        })),
+        "walk" => Ok(requests::walk(asked, &mut |line| say_line(line, out))),
         "scalar" => asking::scalar(asked, third).map(|reading| say_scalar(reading.scalar, out)),
         _ => asking::step_in(asked, third).map(|opened| {
             let kind = if opened.is_struct {
@@ -329,7 +327,7 @@ fn steps(asked: &Asked<'_>, rules: Rules, count: usize, out: &mut Vec<u8>) {
     let mut own = false;
     for call in 0..count {
         between(out, call);
-        let item = requests::item(asked, steps.next());
+        let item = steps.next();
         own = matches!(item, Item::Refused(refusal) if refusal.own);
         say_item(item, out);
     }
@@ -373,7 +371,7 @@ fn say_scalar(scalar: Scalar, out: &mut Vec<u8>) {
 
 fn say_line(line: Line, out: &mut Vec<u8>) {
     match line {
-        Line::Marker { start, end } => {
+        Line::Marker { start, end, .. } => {
             say(out, format_args!("0 marker {start} {start} {end} {end} ; "))
         }
         Line::Value {

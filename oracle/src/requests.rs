@@ -1,17 +1,20 @@
 //! What the change requests move away from the Rust: the answers that are wanted where it gives
 //! others, and by which request. What such an answer is about, the Rust's own readings say.
 
-use crate::asking::{self, Asked, Item, Line, Refusal};
+use crate::asking::{self, Asked, Item, Line, Refusal, Rules};
 
 /// A request that moves answers of the Rust.
 #[derive(Clone, Copy, Debug, PartialEq)]
 pub enum Request {
     LimitBeforeCut,
+    OneVersion,
 }
 
 /// What each request moves, in the order of `Request`.
-pub const REQUESTS: [&str; 1] =
-    ["annotations over the limit and cut short: 26 here, 5 in the Rust (A.10)"];
+pub const REQUESTS: [&str; 2] = [
+    "annotations over the limit and cut short: 26 here, 5 in the Rust (A.10)",
+    "a marker that isn't 1.0: 60 here, passed in the Rust (A.2)",
+];
 
 // ===== The answers wanted =====
 
@@ -25,18 +28,72 @@ pub fn refusal(asked: &Asked<'_>, rust: Refusal) -> Refusal {
     }
 }
 
-pub fn item(asked: &Asked<'_>, rust: Item) -> Item {
-    match rust {
-        Item::Refused(rust) => Item::Refused(refusal(asked, rust)),
-        _ => rust,
+/// Steps through a part. They stay before a marker that is refused here, where the Rust goes on.
+pub struct Steps<'a, 'b> {
+    asked: &'b Asked<'a>,
+    rust: asking::Steps<'a>,
+    stopped: Option<Refusal>,
+}
+
+impl<'a, 'b> Steps<'a, 'b> {
+    pub fn new(asked: &'b Asked<'a>, rules: Rules) -> Self {
+        Steps {
+            asked,
+            rust: asking::Steps::new(asked, rules),
+            stopped: None,
+        }
+    }
+
+    #[allow(clippy::should_implement_trait)]
+    pub fn next(&mut self) -> Item {
+        if let Some(refusal) = self.stopped {
+            return Item::Refused(refusal);
+        }
+        let rust = self.rust.next();
+        match rust {
+            Item::Refused(rust) => Item::Refused(refusal(self.asked, rust)),
+            Item::Marker {
+                start,
+                major,
+                minor,
+                ..
+            } => {
+                self.stopped = other_version(start, major, minor);
+                self.stopped.map_or(rust, Item::Refused)
+            }
+            _ => rust,
+        }
     }
 }
 
-pub fn line(asked: &Asked<'_>, rust: Line) -> Line {
-    match rust {
-        Line::Refused(rust) => Line::Refused(refusal(asked, rust)),
-        _ => rust,
-    }
+/// Hands every line of the walk to `line`. A refusal is the last, also where the Rust goes on.
+pub fn walk(asked: &Asked<'_>, line: &mut impl FnMut(Line)) {
+    let mut is_over = false;
+    asking::walk(asked, &mut |rust| {
+        if is_over {
+            return;
+        }
+        let wanted = match rust {
+            Line::Refused(rust) => Line::Refused(refusal(asked, rust)),
+            Line::Marker {
+                start,
+                major,
+                minor,
+                ..
+            } => other_version(start, major, minor).map_or(rust, Line::Refused),
+            _ => rust,
+        };
+        is_over = matches!(wanted, Line::Refused(_));
+        line(wanted);
+    });
+}
+
+// ===== A.2: only version 1.0 =====
+
+/// The refusal of a marker with these numbers, which the Rust hands out, if they aren't 1 and 0.
+fn other_version(start: usize, major: u8, minor: u8) -> Option<Refusal> {
+    let is_other = (major, minor) != (1, 0);
+    is_other.then(|| Refusal::moved(Request::OneVersion, 60, start))
 }
 
 // ===== A.10: 26 before 5 =====

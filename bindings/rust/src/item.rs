@@ -105,14 +105,14 @@ impl fmt::Display for Type {
     }
 }
 
-/// A version marker: four bytes, E0, major, minor, EA.
+/// The version marker of Ion 1.0: four bytes, E0, major, minor, EA. One with other numbers is refused.
 #[derive(Clone, Debug, PartialEq, Eq, Hash)]
 pub struct Marker {
     /// Its four bytes.
     pub span: Range<usize>,
-    /// The version's first number, whatever it is; 1 for Ion 1.0.
+    /// The version's first number, 1.
     pub major: u8,
-    /// The version's second number; 0 for Ion 1.0.
+    /// The version's second number, 0.
     pub minor: u8,
 }
 
@@ -178,7 +178,7 @@ pub enum Item {
         /// The part's end.
         position: usize,
     },
-    /// A version marker; only in a stream.
+    /// The version marker; only in a stream.
     Marker(Marker),
     /// A value of a stream or a sequence.
     Value(Value),

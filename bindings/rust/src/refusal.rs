@@ -70,6 +70,7 @@ refusals! {
     SYMBOL_TOO_LONG = 35, "a symbol of over 8 bytes";
     BAD_UTF8 = 36, "bad UTF-8";
     TOO_DEEP = 37, "a container too deep for the walk";
+    NOT_VERSION_1_0 = 60, "a marker that isn't 1.0";
 
     OUTSIDE = 50, "a part or a position outside the map or out of order";
     RECORD_TOO_SHORT = 51, "a record buffer under 64 bytes";

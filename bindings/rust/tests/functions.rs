@@ -49,7 +49,7 @@ fn steps_through_a_struct() {
 
 #[test]
 fn steps_refused() {
-    let refused: [(&[u8], u64, usize); 12] = [
+    let refused: [(&[u8], u64, usize); 18] = [
         (&[0x01], 6, 1),
         (&[0xE0, 0x01, 0x00], 2, 0),
         (&[0xE3, 0x81, 0x84], 1, 3),
@@ -62,12 +62,32 @@ fn steps_refused() {
         (&[0x22, 0x05], 8, 0),
         (&[0xE0, 0x01, 0x00, 0x00], 21, 0),
         (&[0xF0], 22, 0),
+        (&[0xE0, 0x02, 0x00, 0xEA], 60, 0),
+        (&[0xE0, 0x01, 0x01, 0xEA], 60, 0),
+        (&[0xE0, 0x00, 0x00, 0xEA], 60, 0),
+        (&[0x00, 0xE0, 0x01, 0x01, 0xEA], 60, 1),
+        (&[0xE0, 0x02, 0x00, 0xEB], 21, 0),
+        (&[0xE0, 0x02, 0x00], 2, 0),
     ];
     for (map, number, position) in refused {
         assert_eq!(first(map), Err(refusal(number, position)), "{map:X?}");
     }
     let in_list = step(&[0xB1, 0xE0], Part::new(PartKind::Sequence, 1..2), 1);
     assert_eq!(in_list, Err(refusal(22, 1)));
+}
+
+/// Nothing behind a marker that isn't 1.0 is handed out.
+#[test]
+fn another_version() {
+    let map = [0xE0, 0x01, 0x00, 0xEA, 0x20, 0x00, 0xE0, 0x01, 0x01, 0xEA, 0x20];
+    let other = Err(refusal(Refusal::NOT_VERSION_1_0, 6));
+    let mut items = items(&map, Part::stream(&map));
+    let met: Vec<_> = items.by_ref().map(|item| item.map(|item| item.span())).collect();
+    assert_eq!(met, [Ok(0..4), Ok(4..5), other.clone()]);
+    assert_eq!(items.position(), 5);
+    let met: Vec<_> = walk(&map).map(|met| met.map(|(_, item)| item.span())).collect();
+    assert_eq!(met, [Ok(0..4), Ok(4..5), other]);
+    assert_eq!(walked(&map, u64::MAX), 2);
 }
 
 #[test]

@@ -57,7 +57,7 @@ fn every_stored_map_has_a_listing() {
     let mut listed: Vec<String> = stored().into_iter().map(|stored| stored.name).collect();
     listed.sort();
     assert_eq!(listed, files());
-    assert_eq!(listed.len(), 71);
+    assert_eq!(listed.len(), 81);
 }
 
 #[test]

@@ -31,7 +31,7 @@ module _ (M : Type 1) (𝓤 : URA M) (H : Heap 𝓤) (𝓜 : Model 𝓤 H) (𝓖
     pub inside : NeverOutside
 
   -- 3, whole runs. "For every list of step calls on a stream or a reached body: what is handed out, with the pads before it, tiles the part exactly and in
-  -- order."
+  -- order." Its markers are E0 01 00 EA, by the change request A.2: "the tiling of a map covers 1.0 markers only".
   pub record WholeRuns : Type 1 where
     pub tiled : ProgramTiling 𝓤 H 𝓜 𝓖 κs
     -- "Overwrite one reached body: every run, annotation step, stepping in and scalar reading outside it answers the same", and its own span stays.

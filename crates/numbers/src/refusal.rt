@@ -63,6 +63,8 @@ pub const SYMBOL_TOO_LONG: u64 = 35;
 pub const BAD_UTF8: u64 = 36;
 // A container deeper than the walk goes.
 pub const TOO_DEEP: u64 = 37;
+// A marker that isn't 1.0.
+pub const NOT_VERSION_1_0: u64 = 60;
 
 // Whoever calls.
 

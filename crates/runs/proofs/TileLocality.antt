@@ -19,7 +19,7 @@ use Rattle.framing.specs.Answers.{Frame, padding, valued, readFrame}
 use Rattle.framing.proofs.Bounds.{Ordered, read-value-each, FrameIn, pad-in, value-in, frame-each}
 use Rattle.framing.proofs.Locality.{FrameIs, pad-is, value-is, frame-is, frame-local, value-given-local, pad-given-local}
 use Rattle.stepping.specs.Items.{marker, value, field}
-use Rattle.stepping.specs.Answers.{Tile, skip, hand, markerAt, framedAt, asTile, namedAt, asField, fieldAt, tileAt}
+use Rattle.stepping.specs.Answers.{Tile, skip, hand, versionPasses, markerAt, framedAt, asTile, namedAt, asField, fieldAt, tileAt}
 use Rattle.stepping.specs.declared.cursor.Rules.{Rules}
 use Rattle.stepping.specs.declared.cursor.Rules.the-variants.{Stream, Sequence, Fields}
 use Rattle.runs.proofs.Standing.{placeOf}
@@ -93,6 +93,7 @@ module _ (s t : List ℕ) (e : length s ≡ length t) where
   marker-body at hi x h =
       let p = refuse-gives (ltb (hi - at) 4) 2 at h in
       let q = refuse-gives (not (eqb (getD s (at + 3) 0) 234)) 21 at (p .1) in
+      let w = refuse-gives (not (versionPasses (getD s (at + 1) 0) (getD s (at + 2) 0))) 60 at (q .1) in
       let r : hand (marker at (getD s (at + 1) 0) (getD s (at + 2) 0) (at + 4)) ≡ x = cc in
       ap (λ (y : Tile). placeOf y .body) (sym r)
 

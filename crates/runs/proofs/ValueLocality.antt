@@ -25,7 +25,7 @@ use Rattle.framing.proofs.Completeness.{values-complete}
 use Rattle.framing.proofs.Bounds.{Ordered, read-value-each}
 use Rattle.framing.proofs.Locality.{FrameIs, pad-is, value-is, frame-is}
 use Rattle.stepping.specs.Items.{Item, marker, value, field}
-use Rattle.stepping.specs.Answers.{Tile, hand, markerAt, framedAt, asTile, namedAt, asField, fieldAt, tileAt}
+use Rattle.stepping.specs.Answers.{Tile, hand, versionPasses, markerAt, framedAt, asTile, namedAt, asField, fieldAt, tileAt}
 use Rattle.bodies.specs.Utf8.{utf8}
 use Rattle.bodies.specs.Magnitude.{significantFrom}
 use Rattle.runs.specs.Reached.{ValueOf, a-value, a-field, itemStart, EntryAt}
@@ -96,6 +96,7 @@ unfolding markerAt
 marker-stands s p hi {i} k q =
     let a = refuse-gives (ltb (hi - p) 4) 2 p q in
     let b = refuse-gives (not (eqb (getD s (p + 3) 0) 234)) 21 p (a .1) in
+    let c = refuse-gives (not (versionPasses (getD s (p + 1) 0) (getD s (p + 2) 0))) 60 p (b .1) in
     no-value k (cc)
   where
     no-value : {j : Item} {u : Spans} → ValueOf j u → marker p (getD s (p + 1) 0) (getD s (p + 2) 0) (p + 4) ≡ j → ⊥

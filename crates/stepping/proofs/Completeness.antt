@@ -63,8 +63,8 @@ module _ (s : List ℕ) (hi : ℕ) where
 
   item-complete : {rules : Rules} {a : ℕ} {i : Item} (t : ItemAt s hi rules a i) → ItemWithin t → (a < hi) × (hi ≤ length s) × (tileAt rules s a hi ≡ gives (hand i))
   unfolding tileAt framedAt namedAt markerAt
-  item-complete (marker-at {a} e0 ea fits within) l =
-      (omega arith, within, rw (eq-eqb (getD s a 0) 224 e0, le-ltb (hi - a) 4 (omega arith), eq-eqb (getD s (a + 3) 0) 234 ea))
+  item-complete (marker-at {a} e0 major minor ea fits within) l =
+      (omega arith, within, rw (eq-eqb (getD s a 0) 224 e0, le-ltb (hi - a) 4 (omega arith), eq-eqb (getD s (a + 3) 0) 234 ea, major, minor))
   item-complete (value-in-stream {a} {v} b) l =
       let f = value-fits b in
       (f .0, f .1, rw (value-begins b, values-complete s a hi v b l .1))

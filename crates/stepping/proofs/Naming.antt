@@ -111,7 +111,7 @@ unfolding markerAt
 marked-onward s at end =
     each-refuse (ltb (end - at) 4) 2 at (λ _.
     each-refuse (not (eqb (getD s (at + 3) 0) 234)) 21 at (λ _.
-    each-refuse (not (versionPasses (getD s (at + 1) 0) (getD s (at + 2) 0))) 21 at (λ _. given hands)))
+    each-refuse (not (versionPasses (getD s (at + 1) 0) (getD s (at + 2) 0))) 60 at (λ _. given hands)))
 
 tile-onward : (rules : Rules) (s : List ℕ) (at end : ℕ) (u : Unsigned) → Each (Onward at end) (tileFrom rules s at end u)
 unfolding tileFrom tileBehind

@@ -41,7 +41,7 @@ unfolding markerAt
 marker-each s at end =
     each-refuse (ltb (end - at) 4) 2 at (λ l.
     each-refuse (not (eqb (getD s (at + 3) 0) 234)) 21 at (λ _.
-    each-refuse (not (versionPasses (getD s (at + 1) 0) (getD s (at + 2) 0))) 21 at (λ _.
+    each-refuse (not (versionPasses (getD s (at + 1) 0) (getD s (at + 2) 0))) 60 at (λ _.
     given (hand-in (a-marker {e = at + 4} (omega arith) (omega (arith, ltb-false (end - at) 4 l)))))))
 
 -- of a frame that begins at `next`, after a field ID or after nothing
@@ -98,7 +98,7 @@ tile-proper Stream s at end h k =
     proper-pick (eqb (getD s at 0) 224)
     (proper-refuse (ltb (end - at) 4) 2 at (λ e. omega arith) (λ _.
     proper-refuse (not (eqb (getD s (at + 3) 0) 234)) 21 at (λ e. omega arith) (λ _.
-    proper-refuse (not (versionPasses (getD s (at + 1) 0) (getD s (at + 2) 0))) 21 at (λ e. omega arith) (λ _. gave))))
+    proper-refuse (not (versionPasses (getD s (at + 1) 0) (getD s (at + 2) 0))) 60 at (λ e. omega arith) (λ _. gave))))
     (proper-then (frame-each s at end) (frame-proper s end k at h) (λ f i. frame-as-tile f 0 at .0))
 tile-proper Sequence s at end h k = proper-then (frame-each s at end) (frame-proper s end k at h) (λ f i. frame-as-tile f 0 at .0)
 tile-proper Fields s at end h k =

@@ -4,7 +4,7 @@ use Prim.Native.Nat.{ℕ, _+_, _-_, _≤_, _<_}
 use native.Mathlib.Omega.{arith}
 use borrow.Author.Tests.{ltb-false, eqb-true, not-false}
 use mathlib.Core.Path.{_≡_, refl, sym, subst}
-use mathlib.Core.Bool.{not}
+use mathlib.Core.Bool.{true, not, true≢false}
 use mathlib.Core.List.{List}
 use lib.ListN.{length, getD}
 use lib.Dec.{ltb, eqb}
@@ -12,7 +12,7 @@ use Rattle.numbers.specs.Format.{varUIntOf, NumberAt}
 use Rattle.numbers.specs.Outcome.{gives}
 use Rattle.numbers.specs.Bytes.{part}
 use Rattle.numbers.specs.Answers.{Unsigned, unsigned}
-use Rattle.numbers.proofs.Outcomes.{Each, given, each-refuse, each-pick, each-then, each-of}
+use Rattle.numbers.proofs.Outcomes.{by-test, Each, given, each-refuse, each-pick, each-then, each-of}
 use Rattle.numbers.proofs.Meaning.{ReadAt, var-uint-each}
 use Rattle.framing.specs.Answers.{Frame}
 use Rattle.framing.specs.Spans.{Spans}
@@ -31,14 +31,21 @@ pub data TileAt (rules : Rules) (s : List ℕ) (at hi : ℕ) : Tile → Type 0 w
   a-pad : {b e : ℕ} (t : PadAt rules s hi (record { start = at; body = b; end = e })) → PadWithin t → TileAt rules s at hi (skip b e)
   an-item : {i : Item} (t : ItemAt s hi rules at i) → ItemWithin t → TileAt rules s at hi (hand i)
 
+-- what passes is version 1.0
+passing-version : (major minor : ℕ) → versionPasses major minor ≡ true → (major ≡ 1) × (minor ≡ 0)
+passing-version major minor =
+    by-test (λ t. t ≡ true → (major ≡ 1) × (minor ≡ 0)) (eqb major 1) (λ h e. (eqb-true major 1 h, eqb-true minor 0 e)) (λ h e. absurd (true≢false (sym e)))
+
 marker-sound : (s : List ℕ) (at hi : ℕ) → at < hi → hi ≤ length s → getD s at 0 ≡ 224 → Each (TileAt Stream s at hi) (markerAt s at hi)
 unfolding markerAt
 marker-sound s at hi h k e =
     each-refuse (ltb (hi - at) 4) 2 at (λ l.
     each-refuse (not (eqb (getD s (at + 3) 0) 234)) 21 at (λ m.
-    each-refuse (not (versionPasses (getD s (at + 1) 0) (getD s (at + 2) 0))) 21 at (λ _.
+    each-refuse (not (versionPasses (getD s (at + 1) 0) (getD s (at + 2) 0))) 60 at (λ v.
+    let p = passing-version (getD s (at + 1) 0) (getD s (at + 2) 0) (not-false _ v) in
     given
-    (an-item (marker-at e (eqb-true (getD s (at + 3) 0) 234 (not-false _ m)) (omega (arith, ltb-false (hi - at) 4 l)) k) tt))))
+    (rw (p .0, p .1)
+    (an-item (marker-at e (p .0) (p .1) (eqb-true (getD s (at + 3) 0) 234 (not-false _ m)) (omega (arith, ltb-false (hi - at) 4 l)) k) tt)))))
 
 -- a frame where no field ID stands before it
 module _ (rules : Rules) (s : List ℕ) (at hi : ℕ) (name : NameBytes s hi rules at at) (item : (v : Spans) (b : ValueBytes s at hi v) → Within b → TileAt rules s at hi (hand (value v))) where

@@ -40,7 +40,7 @@ ends-not {p} {i} e q =
 
 -- an item of a part is no end
 no-end : {s : List ℕ} {hi at : ℕ} {rules : Rules} {i : Item} → ItemAt s hi rules at i → HandedOut i
-no-end (marker-at a b c d) = record { out = λ is. refl; spans = λ toEnd ps rest. refl }
+no-end (marker-at a b c d e f) = record { out = λ is. refl; spans = λ toEnd ps rest. refl }
 no-end (value-in-stream b) = record { out = λ is. refl; spans = λ toEnd ps rest. refl }
 no-end (value-in-sequence b) = record { out = λ is. refl; spans = λ toEnd ps rest. refl }
 no-end (field-at n b) = record { out = λ is. refl; spans = λ toEnd ps rest. refl }

@@ -1,7 +1,7 @@
 -- The scope paper's "Stream item" and "Body steps": what a step on a part answers, and the pads that it passes on the way.
 -- Assumes nothing.
 use Prim.Native.Nat.{ℕ, zero, suc, _+_, _-_}
-use mathlib.Core.Bool.{Bool, true, not}
+use mathlib.Core.Bool.{Bool, false, not}
 use mathlib.Core.List.{List, [], _∷_}
 use lib.ListN.{getD}
 use lib.Dec.{ltb, eqb}
@@ -18,16 +18,16 @@ pub data Tile : Type 0 where
   skip : ℕ → ℕ → Tile
   hand : Item → Tile
 
--- "with any two numbers": which markers pass, by their two numbers
+-- which markers pass, by their two numbers: "with any two numbers", and by the change request A.2 those of version 1.0 alone
 abbrev pub versionPasses : ℕ → ℕ → Bool
-versionPasses major minor = true
+versionPasses major minor = pick (eqb major 1) (eqb minor 0) false
 
--- "A marker is E0, major, minor, EA": 2 under four bytes, 21 without EA, both at its start, and 21 for numbers that do not pass, of which there are none
+-- "A marker is E0, major, minor, EA": 2 under four bytes, 21 without EA; then, by the change request A.2, 60 "a marker that isn't 1.0"; all at its start
 unfoldable pub markerAt : List ℕ → ℕ → ℕ → Outcome Tile
 markerAt s at end =
     refuseIf (ltb (end - at) 4) 2 at
     (refuseIf (not (eqb (getD s (at + 3) 0) 234)) 21 at
-    (refuseIf (not (versionPasses (getD s (at + 1) 0) (getD s (at + 2) 0))) 21 at
+    (refuseIf (not (versionPasses (getD s (at + 1) 0) (getD s (at + 2) 0))) 60 at
     (gives (hand (marker at (getD s (at + 1) 0) (getD s (at + 2) 0) (at + 4))))))
 
 abbrev pub asTile : Frame → Outcome Tile

@@ -26,8 +26,8 @@ pub record PadAt (rules : Rules) (s : List ℕ) (hi : ℕ) (p : Pad) : Type 0 wh
 
 -- "a marker its four bytes; a value its field ID in a struct, its wrapper if any, and itself": the item that starts at a
 pub data ItemAt (s : List ℕ) (hi : ℕ) : Rules → ℕ → Item → Type 0 where
-  marker-at : {a : ℕ} → getD s a 0 ≡ 224 → getD s (a + 3) 0 ≡ 234 → a + 4 ≤ hi → hi ≤ length s
-      → ItemAt s hi Stream a (marker a (getD s (a + 1) 0) (getD s (a + 2) 0) (a + 4))
+  marker-at : {a : ℕ} → getD s a 0 ≡ 224 → getD s (a + 1) 0 ≡ 1 → getD s (a + 2) 0 ≡ 0 → getD s (a + 3) 0 ≡ 234 → a + 4 ≤ hi → hi ≤ length s
+      → ItemAt s hi Stream a (marker a 1 0 (a + 4))
   value-in-stream : {a : ℕ} {v : Spans} → ValueBytes s a hi v → ItemAt s hi Stream a (value v)
   value-in-sequence : {a : ℕ} {v : Spans} → ValueBytes s a hi v → ItemAt s hi Sequence a (value v)
   field-at : {a n : ℕ} {v : Spans} → NumberAt s a hi n → ValueBytes s n hi v → ItemAt s hi Fields a (field (varUIntOf (part s a n)) a v)

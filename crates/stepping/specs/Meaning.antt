@@ -22,7 +22,7 @@ abbrev pub PadWithin : {rules : Rules} {s : List ℕ} {hi : ℕ} {p : Pad} → P
 PadWithin {p = p} t = (t .after ≤ p .start + 9) × (p .body ≤ t .after + 1 + 9)
 
 abbrev pub ItemWithin : {s : List ℕ} {hi : ℕ} {rules : Rules} {a : ℕ} {i : Item} → ItemAt s hi rules a i → Type 0
-ItemWithin (marker-at e0 ea fits within) = Unit {0}
+ItemWithin (marker-at e0 major minor ea fits within) = Unit {0}
 ItemWithin (value-in-stream b) = Within b
 ItemWithin (value-in-sequence b) = Within b
 ItemWithin (field-at {a} {n} id b) = (n ≤ a + 9) × Within b

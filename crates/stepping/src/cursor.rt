@@ -18,6 +18,7 @@ use numbers::binary_buffer::read_var_uint;
 use numbers::refusal::BAD_MARKER;
 use numbers::refusal::FIELD_CUT;
 use numbers::refusal::MARKER_CUT;
+use numbers::refusal::NOT_VERSION_1_0;
 use numbers::refusal::OUTSIDE;
 use numbers::refusal::Refusal;
 use numbers::var_uint::VarUInt;
@@ -147,11 +148,14 @@ fn refused(number: u64, position: usize) -> Tile
     Tile::Item(Item::Refused(Refusal { number, position }))
 }
 
-// Whether a marker with these two numbers passes: any does.
+// Whether a marker with these two numbers passes: that of version 1.0 alone.
 fn version_passes(major: u8, minor: u8) -> bool
     ensures { λ r. ⌜ r ≡ versionPasses major minor ⌝ }
 {
-    true
+    if major != 1 {
+        return false;
+    }
+    minor == 0
 }
 
 // The version marker that begins at `at` with E0.
@@ -168,7 +172,7 @@ fn read_ivm(s: &[u8], at: usize, end: usize) -> Tile
     let major = s[at + 1];
     let minor = s[at + 2];
     if !version_passes(major, minor) {
-        return refused(BAD_MARKER, at);
+        return refused(NOT_VERSION_1_0, at);
     }
     let after = at + 4;
     Tile::Item(Item::Marker {

@@ -281,7 +281,7 @@ fn boundary<R: Reader>(session: &mut Session<R>, random: &mut Random, number: us
 }
 
 fn at_boundary(random: &mut Random, number: usize) -> Vec<u8> {
-    let bytes = match number % 12 {
+    let bytes = match number % 13 {
         0 | 1 => wide_var_uint(random),
         2 => long_annotations(random, number),
         3 => middle_length(random),
@@ -292,6 +292,7 @@ fn at_boundary(random: &mut Random, number: usize) -> Vec<u8> {
         8 => text(random),
         9 => wrapper(random),
         10 => numbers_only(random),
+        11 => marker(random),
         _ => field(random),
     };
     placed(random, bytes)
@@ -494,6 +495,16 @@ fn wrapper(random: &mut Random) -> Vec<u8> {
         joined(&[&[0xEE], &var_uint(combined as u64, 1)])
     };
     joined(&[&head, &length, &ids, &inner])
+}
+
+/// A marker whose numbers and last byte are as in version 1.0 or not, between other items.
+fn marker(random: &mut Random) -> Vec<u8> {
+    let major = random.pick(&[0x01, 0x01, 0x01, 0x00, 0x02, 0x81, 0xEA, 0xFF]);
+    let minor = random.pick(&[0x00, 0x00, 0x00, 0x01, 0x02, 0x80, 0xEA, 0xFF]);
+    let last = random.pick(&[0xEA, 0xEA, 0xEA, 0xEA, 0xEA, 0xEB, 0x00]);
+    let before = random.word("- - - 20 B12000 E00100EA");
+    let after = random.word("- - 20 00 F0 E0 E00100EA E00101EA");
+    joined(&[&before, &[0xE0, major, minor, last], &after])
 }
 
 fn numbers_only(random: &mut Random) -> Vec<u8> {

@@ -4,9 +4,9 @@ use crate::expected::{may_stand, Expected};
 use crate::ours::{Part, Reader, Record, RECORD};
 use crate::question::{Ask, Entry, Question, INT, KINDS, VAR_UINT};
 use crate::walking::Walk;
-use oracle::asking::{self, Annotations, Asked, Line, Refusal, Rules, Steps};
+use oracle::asking::{self, Annotations, Asked, Line, Refusal, Rules};
 use oracle::lazy::expanded::EncodingContext;
-use oracle::requests::{self, Request, REQUESTS};
+use oracle::requests::{self, Request, Steps, REQUESTS};
 
 #[derive(Clone, Copy, Debug, PartialEq)]
 pub enum Verdict {
@@ -252,7 +252,7 @@ impl<'a, R: Reader> Bench<'a, R> {
         // The end and a refusal repeat: each is asked for twice.
         let mut ends = 0;
         while ends < 2 {
-            let expected = Expected::item(requests::item(&asked, steps.next()));
+            let expected = Expected::item(steps.next());
             let room = room_for(part);
             let returned = self
                 .reader
@@ -291,7 +291,7 @@ impl<'a, R: Reader> Bench<'a, R> {
         let mut part = part;
         let mut wanted = (0, 0);
         while (wanted.0 as usize) < room / RECORD {
-            let expected = Expected::item(requests::item(&asked, steps.next()));
+            let expected = Expected::item(steps.next());
             if !self.check_slot(wanted.0 as usize, part, rules, &expected) {
                 return false;
             }
@@ -410,9 +410,8 @@ impl<'a, R: Reader> Bench<'a, R> {
         let mut ours = Walk::new(part);
         let mut fine = true;
         let asked = self.asked(part);
-        asking::walk(&asked, &mut |line| {
+        requests::walk(&asked, &mut |line| {
             if fine {
-                let line = requests::line(&asked, line);
                 fine = self.check_line(part, line, ours.next(self.reader, self.map));
             }
         });
@@ -446,8 +445,13 @@ impl<'a, R: Reader> Bench<'a, R> {
     /// The count is of a whole map, so the part is one.
     fn walked(&mut self, part: Part, most: u64) -> bool {
         let mut wanted = 0;
-        asking::walk(&self.asked(part), &mut |line| {
-            wanted += matches!(line, Line::Marker { .. } | Line::Value { .. }) as u64;
+        requests::walk(&self.asked(part), &mut |line| match line {
+            Line::Marker { .. } | Line::Value { .. } => wanted += 1,
+            // Of the requests this one alone changes the count: the Rust goes on.
+            Line::Refused(refusal) if refusal.moved == Some(Request::OneVersion) => {
+                self.moved = refusal.moved.filter(|_| wanted < most)
+            }
+            _ => {}
         });
         let wanted = wanted.min(most);
         let cut = &self.map[part.position..part.end];

@@ -27,7 +27,7 @@ use std::time::Instant;
 use wrong::{Mistake, Wrong, MISTAKES};
 
 /// The refusals that a comparison must have met.
-const REFUSALS: [std::ops::RangeInclusive<usize>; 3] = [1..=9, 20..=37, 50..=52];
+const REFUSALS: [std::ops::RangeInclusive<usize>; 4] = [1..=9, 20..=37, 50..=52, 60..=60];
 
 fn main() {
     session::keep_panics();

@@ -96,6 +96,8 @@ fn line(depth: usize, record: Record) -> Line {
     if kind == 1 {
         return Line::Marker {
             start: start as usize,
+            major: record.0[3] as u8,
+            minor: record.0[4] as u8,
             end: end as usize,
         };
     }

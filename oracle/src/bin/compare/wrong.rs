@@ -50,7 +50,14 @@ mistakes! {
     AnnotationsStart "lets the annotations begin at the wrapper"
     PastPart "tests a value against the slice and not the part"
     MarkerInBody "takes E0 in a body for a marker"
-    OneMarker "takes only the marker of version 1.0"
+    AnyVersion "takes a marker of any version, and goes on"
+    FirstNumber "tests a marker's first number and not its second"
+    SecondNumber "tests a marker's second number and not its first"
+    VersionBeforeLast "says 60 of a marker without EA"
+    VersionBeforeCut "says 60 of a marker under four bytes"
+    VersionAtNumber "puts the refusal of a version at the number"
+    VersionAsBad "says 21 of a marker that isn't 1.0"
+    MarkerFirst "wants a marker at the start of a stream"
     AnyMarker "takes a marker without EA"
     EmptyOrdered "takes an empty ordered struct"
     OrderedOne "takes struct code 1 as the length 1"
@@ -102,6 +109,7 @@ mistakes! {
     Depth31 "walks to depth 31"
     Depth33 "walks to depth 33"
     EndCounted "counts the walk's end as an item"
+    VersionCounted "counts a marker that isn't 1.0 and what is behind it"
 }
 
 pub struct Wrong {
@@ -149,6 +157,19 @@ fn value(map: &[u8], part: Part, at: usize, body: usize, length: usize, out: &mu
     }
     let (at, body, end) = (at as u64, body as u64, (body + length) as u64);
     put(out, [2, map[at as usize] as u64, at, at, at, body, end, 0])
+}
+
+/// The marker at `at`, whatever its last three bytes are.
+fn marker(map: &[u8], at: usize, out: &mut [u8]) -> u64 {
+    let [major, minor] = [map[at + 1] as u64, map[at + 2] as u64];
+    let (start, end) = (at as u64, at as u64 + 4);
+    put(out, [1, 224, start, major, minor, end, end, 0])
+}
+
+/// Where the first of the marker's numbers stands that isn't as in version 1.0.
+fn wrong_number(map: &[u8], at: usize, end: usize) -> Option<usize> {
+    let is_wrong = |number: &usize| map[*number] != [1, 0][number - at - 1];
+    (at + 1..end.min(at + 3)).find(is_wrong)
 }
 
 /// The byte at which a call steps, where that is simply the byte at the cursor.
@@ -251,18 +272,12 @@ impl Wrong {
         match words[0] {
             9 => self.changed_refusal(map, part, kind, out, returned),
             0 if self.is(Mistake::MadeUpEnd) => end(out, part.position),
-            1 => self.changed_marker(out, words),
+            2 if self.is(Mistake::MarkerFirst) && kind == STREAM && part.position == 0 => {
+                refuse(out, 60, words[2] as usize)
+            }
             2 | 3 => self.changed_value(map, part, out, words),
             _ => returned,
         }
-    }
-
-    fn changed_marker(&self, out: &mut [u8], words: [u64; 8]) -> u64 {
-        let [_, _, start, major, minor, ..] = words;
-        if self.is(Mistake::OneMarker) && (major, minor) != (1, 0) {
-            return refuse(out, 21, start as usize);
-        }
-        0
     }
 
     fn changed_value(&self, map: &[u8], part: Part, out: &mut [u8], words: [u64; 8]) -> u64 {
@@ -312,11 +327,20 @@ impl Wrong {
             (Mistake::MarkerInBody, 22) if map[at] == 0xE0 => {
                 Exports.step(map, part.at(at), STREAM, out)
             }
-            (Mistake::AnyMarker, 21) => {
-                let [major, minor] = [map[at + 1] as u64, map[at + 2] as u64];
-                let (start, end) = (at as u64, at as u64 + 4);
-                put(out, [1, 224, start, major, minor, end, end, 0])
+            (Mistake::AnyMarker, 21) | (Mistake::AnyVersion, 60) => marker(map, at, out),
+            (Mistake::FirstNumber, 60) if map[at + 1] == 1 => marker(map, at, out),
+            (Mistake::SecondNumber, 60) if map[at + 2] == 0 => marker(map, at, out),
+            (Mistake::VersionBeforeLast, 21) | (Mistake::VersionBeforeCut, 2) => {
+                match wrong_number(map, at, part.end) {
+                    Some(_) => refuse(out, 60, at),
+                    None => returned,
+                }
             }
+            (Mistake::VersionAtNumber, 60) => match wrong_number(map, at, part.end) {
+                Some(number) => refuse(out, 60, number),
+                None => returned,
+            },
+            (Mistake::VersionAsBad, 60) => refuse(out, 21, at),
             (Mistake::CutPad, 6) | (Mistake::FieldAlone, 7) => end(out, part.end),
             (Mistake::WrapperUnchecked, 29) | (Mistake::Annotations256, 26) => {
                 self.unwrapped(map, part, at, out, returned)
@@ -436,12 +460,12 @@ impl Wrong {
         put(out, words)
     }
 
-    /// The items of the walk with another limit.
-    fn counted(&self, map: &[u8], most: u64, limit: usize) -> u64 {
+    /// The items of the walk by another reader or with another limit.
+    fn counted(&self, reader: &impl Reader, map: &[u8], most: u64, limit: usize) -> u64 {
         let mut walk = Walk::limited(Part::whole(map), limit);
         let mut count = 0;
         while count < most {
-            match walk.next(&Exports, map) {
+            match walk.next(reader, map) {
                 Line::Marker { .. } | Line::Value { .. } => count += 1,
                 Line::End(_) | Line::Refused(_) => break,
             }
@@ -593,8 +617,12 @@ impl Reader for Wrong {
     fn walked(&self, map: &[u8], most: u64) -> u64 {
         let count = Exports.walked(map, most);
         match self.mistake {
-            Mistake::Depth31 => self.counted(map, most, DEPTH_LIMIT - 1),
-            Mistake::Depth33 => self.counted(map, most, DEPTH_LIMIT + 1),
+            Mistake::Depth31 => self.counted(&Exports, map, most, DEPTH_LIMIT - 1),
+            Mistake::Depth33 => self.counted(&Exports, map, most, DEPTH_LIMIT + 1),
+            Mistake::VersionCounted => {
+                let passing = Wrong::new(Mistake::AnyVersion);
+                self.counted(&passing, map, most, DEPTH_LIMIT)
+            }
             Mistake::EndCounted if count < most => count + 1,
             _ => count,
         }

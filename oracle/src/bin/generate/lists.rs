@@ -192,7 +192,8 @@ pub fn steps(q: &mut Questions) {
         }
     }
     let streams = "E00100EA E0FF07EA E00100EB E00100 E0 00E00100EA 01AAE001 E00100EAE00100EA \
-         20000021 200000 0001 0002AA 00F0 20F020";
+         20000021 200000 0001 0002AA 00F0 20F020 E00000EA E00101EA E00200EA E00001EA E00200EB \
+         E00101 00E00101EA 20E00200EA20 E00100EAE00101EA";
     for bytes in words(streams) {
         q.whole_with("stream", &bytes, 4);
         q.whole_with("sequence", &bytes, 4);
@@ -297,6 +298,10 @@ pub fn walks(q: &mut Questions) {
             let map = q.random.deep(depth);
             q.whole("walk", &map.bytes);
         }
+    }
+    // Markers that aren't 1.0, first, after a pad, after items, before more, and inside a list.
+    for bytes in words("E00000EA E0FF07EA 00E00101EA20 E00100EA20E00200EA20 B5E00101EA20") {
+        q.whole("walk", &bytes);
     }
     // Refused items inside a list, and inside a struct inside an s-expression.
     let long = |head: u8, body: &[u8]| joined(&[&[head, 0x80 | body.len() as u8], body]);

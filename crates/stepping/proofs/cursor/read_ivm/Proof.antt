@@ -1,9 +1,8 @@
 -- `read_ivm` meets its contract: its tests are the definition's.
 -- Assumes nothing.
 use borrow.Author.Needs.{needs}
-use borrow.Author.Tests.{le-ltb, lt-ltb, eq-eqb, ne-eqb, not-true}
+use borrow.Author.Tests.{le-ltb, lt-ltb, eq-eqb, ne-eqb, not-true, not-false}
 use mathlib.Core.Path.{_∙_, sym}
-use mathlib.Core.Bool.{true≢false}
 use Rattle.stepping.specs.Answers.{markerAt}
 use Rattle.stepping.proofs.cursor.read_ivm.Statement.{statement}
 use Rattle.stepping.proofs.cursor.read_ivm.Tie as tie
@@ -50,10 +49,12 @@ version-passes-requires c κs = search needs
 refused-requires-3 : tie.Need-refused-requires-3
 refused-requires-3 c κs = search needs
 
--- every marker passes
 returns-3 : tie.Need-returns-3
 unfolding markerAt
-returns-3 c = absurd (true≢false (sym (c .before .before .version-passes .ensures) ∙ not-true _ (c .before .if3 .taken)))
+returns-3 c =
+    let d = c .before .before .before .before .before in
+    c .refused3 .ensures
+    ∙ sym (rw (le-ltb _ _ (d .before .before .if1 .left), eq-eqb _ _ (d .if2 .left), sym (c .before .before .version-passes .ensures) ∙ not-true _ (c .before .if3 .taken)))
 
 add-after : tie.Need-add-after
 add-after c = search needs
@@ -61,7 +62,7 @@ add-after c = search needs
 returns-4 : tie.Need-returns-4
 unfolding markerAt
 returns-4 c =
-    let d = c .before .before .before .before in rw (le-ltb _ _ (d .before .before .if1 .left), eq-eqb _ _ (d .if2 .left))
+    let d = c .before .before .before .before in rw (le-ltb _ _ (d .before .before .if1 .left), eq-eqb _ _ (d .if2 .left), sym (c .before .version-passes .ensures) ∙ not-false _ (c .if3 .left))
 
 pub read-ivm-spec : {M : Type 1} → statement M
 read-ivm-spec =
