@@ -11,6 +11,7 @@ fn main() {
     println!("cargo:rerun-if-env-changed=LIBMAPS");
     println!("cargo:rerun-if-changed={reader}");
     println!("cargo:rerun-if-changed=skip.c");
+    println!("cargo:rerun-if-changed=../include/ion_map.h");
     println!("cargo:rerun-if-changed=build.rs");
 
     let object = out.join("skip.o");

@@ -4,6 +4,8 @@
    that they stay inside the part: no marker's last byte, no reserved byte, no float's length, no wrapper's
    length, no nine-byte limit. So they aren't readers; on a good map they meet the same items. */
 
+#include "../include/ion_map.h"
+
 #include <stddef.h>
 #include <stdint.h>
 
@@ -73,10 +75,10 @@ static inline uint64_t skip(const uint8_t *map, size_t len, uint64_t *ends_sum, 
                 at = past(at, end, 3);
                 sum += at;
                 if (records) {
-                    uint64_t *r = record + 8 * used;
+                    uint64_t *r = record + ION_MAP_RECORD_WORDS * used;
 
                     r[0] = 1, r[1] = byte, r[2] = start, r[3] = map[start + 1], r[4] = map[start + 2];
-                    r[5] = at, r[6] = at, r[7] = 0;
+                    r[5] = at, r[6] = at, r[7] = 0, r[8] = 0;
                     used = used + 1 == room ? 0 : used + 1;
                 }
                 continue;
@@ -106,10 +108,10 @@ static inline uint64_t skip(const uint8_t *map, size_t len, uint64_t *ends_sum, 
         items++;
         sum += at;
         if (records) {
-            uint64_t *r = record + 8 * used;
+            uint64_t *r = record + ION_MAP_RECORD_WORDS * used;
 
             r[0] = kind == 2 ? 3 : 2, r[1] = byte, r[2] = start, r[3] = annotations, r[4] = descriptor;
-            r[5] = body, r[6] = at, r[7] = id;
+            r[5] = body, r[6] = at, r[7] = id, r[8] = at - body;
             used = used + 1 == room ? 0 : used + 1;
         }
         if (type >= 11 && type <= 13 && code != 15 && depth < DEEPEST) {
@@ -131,7 +133,7 @@ uint64_t skip_count(const uint8_t *map, size_t len, uint64_t *ends_sum)
     return skip(map, len, ends_sum, 0, NULL, 0);
 }
 
-/* The same, and each item's 64-byte record is put into one of `room` places in turn. */
+/* The same, and each item's record is put into one of `room` places in turn. */
 uint64_t skip_records(const uint8_t *map, size_t len, uint64_t *ends_sum, uint64_t *record, size_t room)
 {
     return skip(map, len, ends_sum, 1, record, room);

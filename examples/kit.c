@@ -21,6 +21,8 @@ static const uint8_t map[] = {
 };
 enum { LENGTH = sizeof map }; /* 28 */
 
+typedef uint64_t words[ION_MAP_RECORD_WORDS];
+
 static uint8_t record[ION_MAP_RECORD_SIZE];
 static int checks;
 static int differing;
@@ -34,7 +36,8 @@ static void check(const char *what, uint64_t is, uint64_t should_be)
     }
 }
 
-static void check_words(const char *what, const uint8_t *words, const uint64_t *should_be)
+/* Compares a record, and fills it, so that nothing of it is in the next one. */
+static void check_words(const char *what, uint8_t *is, const uint64_t *should_be)
 {
     size_t i;
 
@@ -42,26 +45,28 @@ static void check_words(const char *what, const uint8_t *words, const uint64_t *
         char word[80];
 
         snprintf(word, sizeof word, "%s, word %u", what, (unsigned)i);
-        check(word, ion_map_word(words, i), should_be[i]);
+        check(word, ion_map_word(is, i), should_be[i]);
     }
+    memset(is, 0xAA, ION_MAP_RECORD_SIZE);
 }
 
 static void check_step(void)
 {
-    static const uint64_t marker[] = {ION_MAP_KIND_MARKER, 0xE0, 0, 1, 0, 4, 4, 0};
-    static const uint64_t value[] = {ION_MAP_KIND_VALUE, 0xD5, 4, 6, 7, 8, 13, 0};
-    static const uint64_t field[] = {ION_MAP_KIND_FIELD, 0x21, 10, 11, 11, 12, 13, 5};
-    static const uint64_t end[] = {ION_MAP_KIND_END, 0, 28, 0, 0, 0, 0, 0};
-    static const uint64_t cut[] = {ION_MAP_KIND_REFUSED, ION_MAP_REFUSAL_VALUE_CUT, 13, 0, 0, 0, 0, 0};
+    static const words marker = {ION_MAP_KIND_MARKER, 0xE0, 0, 1, 0, 4, 4, 0, 0};
+    static const words value = {ION_MAP_KIND_VALUE, 0xD5, 4, 6, 7, 8, 13, 0, 5};
+    static const words field = {ION_MAP_KIND_FIELD, 0x21, 10, 11, 11, 12, 13, 5, 1};
+    static const words end = {ION_MAP_KIND_END, 0, 28, 0, 0, 0, 0, 0, 0};
+    static const words cut = {ION_MAP_KIND_REFUSED, ION_MAP_REFUSAL_VALUE_CUT, 13, 0, 0, 0, 0, 0, 0};
     static const uint8_t later[] = {0x00, 0xE0, 0x01, 0x01, 0xEA}; /* a pad, and a marker that isn't Ion 1.0's */
-    static const uint64_t other[] = {ION_MAP_KIND_REFUSED, ION_MAP_REFUSAL_NOT_VERSION_1_0, 1, 0, 0, 0, 0, 0};
+    static const words other = {ION_MAP_KIND_REFUSED, ION_MAP_REFUSAL_NOT_VERSION_1_0, 1, 0, 0, 0, 0, 0, 0};
     uint64_t byte;
 
     check("marker", ion_map_step(map, LENGTH, 0, LENGTH, 0, ION_MAP_PART_STREAM, record, sizeof record), 0);
     check_words("marker", record, marker);
     check("struct", ion_map_step(map, LENGTH, 0, LENGTH, 4, ION_MAP_PART_STREAM, record, sizeof record), 0);
-    check_words("struct", record, value);
     byte = ion_map_word(record, ION_MAP_VALUE_BYTE);
+    check("the struct's body's length", ion_map_word(record, ION_MAP_WORD_LENGTH), 5);
+    check_words("struct", record, value);
     check("the struct's type", ion_map_type(byte), ION_MAP_TYPE_STRUCT);
     check("the struct is null", ion_map_is_null(byte) != 0, 0);
     check("the struct is a container", ion_map_is_container(byte) != 0, 1);
@@ -76,13 +81,15 @@ static void check_step(void)
     check_words("other version", record, other);
     check("position outside", ion_map_step(map, LENGTH, 0, LENGTH, SIZE_MAX, 0, record, sizeof record), 50);
     check("short record", ion_map_step(map, LENGTH, 0, LENGTH, 0, 0, record, sizeof record - 1), 51);
+    check("no room for the length",
+          ion_map_step(map, LENGTH, 0, LENGTH, 0, 0, record, sizeof record - ION_MAP_WORD_SIZE), 51);
 }
 
 static void check_annotation_and_step_in(void)
 {
-    static const uint64_t annotation[] = {ION_MAP_KIND_ANNOTATION, 0, 6, 4, 0, 0, 7, 0};
-    static const uint64_t end[] = {ION_MAP_KIND_END, 0, 7, 0, 0, 0, 0, 0};
-    static const uint64_t body[] = {ION_MAP_KIND_BODY, ION_MAP_PART_STRUCT, 7, 0, 0, 8, 13, 0};
+    static const words annotation = {ION_MAP_KIND_ANNOTATION, 0, 6, 4, 0, 0, 7, 0, 0};
+    static const words end = {ION_MAP_KIND_END, 0, 7, 0, 0, 0, 0, 0, 0};
+    static const words body = {ION_MAP_KIND_BODY, ION_MAP_PART_STRUCT, 7, 0, 0, 8, 13, 0, 5};
 
     check("annotation", ion_map_annotation(map, LENGTH, 6, 7, 6, record, sizeof record), 0);
     check_words("annotation", record, annotation);
@@ -95,16 +102,17 @@ static void check_annotation_and_step_in(void)
 
 static void check_scalar(void)
 {
-    static const uint64_t number[] = {ION_MAP_KIND_SCALAR, 0x21, 11, ION_MAP_WHAT_INT, 0, 12, 13, 0};
-    static const uint64_t string[] = {ION_MAP_KIND_SCALAR, 0x82, 13, ION_MAP_WHAT_STRING, 0, 14, 16, 0};
+    static const words number = {ION_MAP_KIND_SCALAR, 0x21, 11, ION_MAP_WHAT_INT, 0, 12, 13, 0, 1};
+    static const words string = {ION_MAP_KIND_SCALAR, 0x82, 13, ION_MAP_WHAT_STRING, 0, 14, 16, 0, 2};
     uint64_t bits;
     double real;
 
     check("int", ion_map_scalar(map, LENGTH, 8, 13, 11, record, sizeof record), 0);
     check_words("int", record, number);
     check("string", ion_map_scalar(map, LENGTH, 0, LENGTH, 13, record, sizeof record), 0);
-    check_words("string", record, string);
+    check("text's length", ion_map_word(record, ION_MAP_WORD_LENGTH), 2);
     check("text", memcmp(map + ion_map_word(record, ION_MAP_SCALAR_START), "hi", 2) != 0, 0);
+    check_words("string", record, string);
     check("float", ion_map_scalar(map, LENGTH, 0, LENGTH, 19, record, sizeof record), 0);
     bits = ion_map_word(record, ION_MAP_SCALAR_NUMBER);
     memcpy(&real, &bits, sizeof real);
@@ -114,9 +122,9 @@ static void check_scalar(void)
 
 static void check_number(void)
 {
-    static const uint64_t length[] = {ION_MAP_KIND_NUMBER, 0, 5, 1, 0, 6, 6, 0};
-    static const uint64_t exponent[] = {ION_MAP_KIND_NUMBER, 1, 17, 1, 0, 18, 18, 0};
-    static const uint64_t coefficient[] = {ION_MAP_KIND_NUMBER, 0, 18, 99, 0, 19, 19, 0};
+    static const words length = {ION_MAP_KIND_NUMBER, 0, 5, 1, 0, 6, 6, 0, 0};
+    static const words exponent = {ION_MAP_KIND_NUMBER, 1, 17, 1, 0, 18, 18, 0, 0};
+    static const words coefficient = {ION_MAP_KIND_NUMBER, 0, 18, 99, 0, 19, 19, 0, 0};
 
     check("VarUInt", ion_map_number(map, LENGTH, 4, 13, 5, ION_MAP_FORM_VAR_UINT, 0, record, sizeof record), 0);
     check_words("VarUInt", record, length);
@@ -129,13 +137,18 @@ static void check_number(void)
 
 static void check_many(void)
 {
-    static const uint64_t end[] = {ION_MAP_KIND_END, 0, 28, 0, 0, 0, 0, 0};
+    static const words value = {ION_MAP_KIND_VALUE, 0xD5, 4, 6, 7, 8, 13, 0, 5};
+    static const words end = {ION_MAP_KIND_END, 0, 28, 0, 0, 0, 0, 0, 0};
     uint8_t records[8 * ION_MAP_RECORD_SIZE];
     uint64_t count = 0;
 
     check("steps", ion_map_steps(map, LENGTH, 0, LENGTH, 0, 0, records, sizeof records, &count), 0);
     check("the steps' count", count, 6); /* the marker, four values, the end */
+    check_words("the second step", records + ION_MAP_RECORD_SIZE, value);
     check_words("the last step", records + 5 * ION_MAP_RECORD_SIZE, end);
+    check("steps without room",
+          ion_map_steps(map, LENGTH, 0, LENGTH, 0, 0, records, ION_MAP_RECORD_SIZE - 1, &count), 51);
+    check("their count", count, 0);
     check("walked", ion_map_walked(map, LENGTH, UINT64_MAX), 6); /* the marker, four values, the field */
     check("walked two", ion_map_walked(map, LENGTH, 2), 2);
 }

@@ -21,11 +21,12 @@
 
 /* ======================================= Part 1: the step ======================================= */
 
-/* A record is eight words of 64 bits, each with its least significant byte first on every machine.
+/* A record is nine words of 64 bits, each with its least significant byte first on every machine.
    ion_map_word reads one. A buffer may be longer; its further bytes are left as they are. */
 enum {
-    ION_MAP_RECORD_SIZE = 64,
-    ION_MAP_RECORD_WORDS = 8
+    ION_MAP_WORD_SIZE = 8,
+    ION_MAP_RECORD_WORDS = 9,
+    ION_MAP_RECORD_SIZE = ION_MAP_RECORD_WORDS * ION_MAP_WORD_SIZE
 };
 
 /* What a part of a map is: the argument `kind` of the step. */
@@ -35,9 +36,11 @@ enum {
     ION_MAP_PART_STRUCT = 2    /* the body of a struct: every item has a field ID */
 };
 
-/* Word 0 of every record: which kind of record it is. */
+/* Word 0 of every record is which kind of record it is. Word 8 is a length: of a value's or a field's body, of a
+   body that was stepped into, of a scalar's part; in records of other kinds it is 0. */
 enum {
-    ION_MAP_WORD_KIND = 0
+    ION_MAP_WORD_KIND = 0,
+    ION_MAP_WORD_LENGTH = 8
 };
 
 enum {
@@ -131,18 +134,18 @@ enum {
 
     /* The caller's own. */
     ION_MAP_REFUSAL_OUTSIDE = 50,              /* not start <= position <= end <= map_len, or a kind or form above 2 - 0 */
-    ION_MAP_REFUSAL_RECORD_TOO_SHORT = 51,     /* out_len under 64; nothing is written - 0 */
+    ION_MAP_REFUSAL_RECORD_TOO_SHORT = 51,     /* out_len under ION_MAP_RECORD_SIZE; nothing is written - 0 */
     ION_MAP_REFUSAL_INPUT_TOO_LONG = 54        /* a walk's: more bytes than it takes - the most that it takes */
 };
 
-/* Word i of a record, 0 to 7. */
+/* Word i of a record, i being under ION_MAP_RECORD_WORDS. */
 static inline uint64_t ion_map_word(const uint8_t *record, size_t i)
 {
     uint64_t word = 0;
     size_t byte;
 
-    for (byte = 8; byte > 0; byte--) {
-        word = word << 8 | record[8 * i + byte - 1];
+    for (byte = ION_MAP_WORD_SIZE; byte > 0; byte--) {
+        word = word << 8 | record[ION_MAP_WORD_SIZE * i + byte - 1];
     }
     return word;
 }
@@ -185,7 +188,7 @@ extern "C" {
      start, end    the part: 0 and map_len for the stream, words BODY and END of a container for its body
      position      where to go on: `start` at first, then word END of the record before
      kind          what the part is, ION_MAP_PART_...
-     out, out_len  the record, at least 64 bytes
+     out, out_len  the record, at least ION_MAP_RECORD_SIZE bytes
 
    Returns 0, or the number of the refusal that the record holds. With 51 there is no record. Record kinds
    are END, MARKER, VALUE, FIELD and REFUSED.
@@ -304,9 +307,9 @@ uint64_t ion_map_step_in(const uint8_t *map, size_t map_len, size_t start, size_
 uint64_t ion_map_scalar(const uint8_t *map, size_t map_len, size_t start, size_t end, size_t position,
                         uint8_t *out, size_t out_len);
 
-/* As many steps as there is room for: the records of ion_map_step one after the other, 64 bytes each, the
-   last being an end or a refusal where one is met. *count is how many there are, 0 with 51. Where the last
-   one is neither, go on from its word END. Returns 0, or the number of the refusal in the last record. */
+/* As many steps as there is room for: the records of ion_map_step one after the other, ION_MAP_RECORD_SIZE bytes
+   each, the last being an end or a refusal where one is met. *count is how many there are, 0 with 51. Where the
+   last one is neither, go on from its word END. Returns 0, or the number of the refusal in the last record. */
 uint64_t ion_map_steps(const uint8_t *map, size_t map_len, size_t start, size_t end, size_t position,
                        uint64_t kind, uint8_t *out, size_t out_len, uint64_t *count);
 

@@ -11,7 +11,7 @@ use oracle::lazy::expanded::{EncodingContext, EncodingContextRef};
 use oracle::lazy::raw_stream_item::RawStreamItem;
 use oracle::lazy::raw_value_ref::RawValueRef;
 use oracle::lazy::streaming_raw_reader::RawReaderState;
-use oracle::{IonResult, IonType};
+use oracle::{IonResult, IonType, RECORD_WORDS};
 
 mod linked {
     extern "C" {
@@ -50,6 +50,9 @@ mod linked {
     }
 }
 
+/// A record, as our reader and the C loops write it.
+type Record = [u64; RECORD_WORDS];
+
 #[derive(Clone, Copy, Debug, PartialEq)]
 pub struct Met {
     pub items: u64,
@@ -80,7 +83,7 @@ pub const ALL: [Reader; 7] = [
 
 /// What the readers need beside the map, made once and outside the measurements.
 pub struct Room {
-    records: Vec<[u64; 8]>,
+    records: Vec<Record>,
     parts: Vec<Part>,
     context: EncodingContext,
 }
@@ -88,7 +91,7 @@ pub struct Room {
 impl Room {
     pub fn new() -> Self {
         Room {
-            records: vec![[0; 8]; 1024],
+            records: vec![[0; RECORD_WORDS]; 1024],
             parts: Vec::with_capacity(1 << 16),
             context: EncodingContext::empty(),
         }
@@ -143,7 +146,7 @@ impl Part {
     }
 
     /// The body of the container that a record is of.
-    fn body(record: &[u64; 8]) -> Self {
+    fn body(record: &Record) -> Self {
         Part {
             start: record[5] as usize,
             end: record[6] as usize,
@@ -163,7 +166,7 @@ fn single_steps(map: &[u8], room: &mut Room) -> Met {
     let above = &mut room.parts;
     above.clear();
     let mut part = Part::whole(map);
-    let mut record = [0u64; 8];
+    let mut record: Record = [0; RECORD_WORDS];
     let (mut items, mut ends) = (0, 0u64);
     loop {
         // Each call lends the map and the buffer for its own length, and nothing is kept.
@@ -176,7 +179,7 @@ fn single_steps(map: &[u8], room: &mut Room) -> Met {
                 part.at,
                 part.kind,
                 record.as_mut_ptr().cast(),
-                64,
+                size_of_val(&record),
             )
         };
         assert!(refused == 0, "the maps are good");
@@ -219,7 +222,7 @@ fn steps(map: &[u8], batch: usize, room: &mut Room) -> Met {
                 part.at,
                 part.kind,
                 records.as_mut_ptr().cast(),
-                64 * batch,
+                size_of_val(records),
                 &mut count,
             )
         };

@@ -6,8 +6,8 @@
     ./derive_records.py questions | oracle/answer | ./derive_records.py compare   asks ion-rust what it has an entry for
 
 What a value, a pad or a wrapper is and where it is refused comes from ../mapspans_cases/derive.py, which follows the scope paper and the change requests after
-it. The records follow the paper's "Record", "Scalars" and "VarUInt, VarInt, Int", the kinds 5 to 8 the tables of include/ion_map.h. Nothing is shared with the
-reader that is compared.
+it. The records follow the paper's "Record", "Scalars" and "VarUInt, VarInt, Int" and the change request A.6, the kinds 5 to 8 the tables of include/ion_map.h.
+Nothing is shared with the reader that is compared.
 """
 
 import struct
@@ -22,7 +22,9 @@ import derive as steps  # noqa: E402
 from derive import Refused, refuse_if, var_uint  # noqa: E402
 
 FILL = 0xAA
-RECORD_SIZE = 64
+WORD_SIZE = 8
+RECORD_WORDS = 9
+RECORD_SIZE = RECORD_WORDS * WORD_SIZE
 STEPS = [steps.step_stream, steps.step_sequence, steps.step_struct]
 FIELDS = 2
 END, MARKER, VALUE, FIELD, _, ANNOTATION, BODY, SCALAR, NUMBER, REFUSED = range(10)
@@ -44,8 +46,9 @@ REFUSALS = {
 # ===== The records' words =====
 
 
-def record(*words):
-    return [*words] + [0] * (8 - len(words))
+def record(*words, length=0):
+    """The words of a record; the last is the length of what it hands out."""
+    return [*words] + [0] * (RECORD_WORDS - 1 - len(words)) + [length]
 
 
 def inside(data, start, end, position):
@@ -65,7 +68,8 @@ def item_record(data, item, kind):
         return record(MARKER, item.byte, item.start, data[item.start + 1], data[item.start + 2], item.end, item.end)
     field, at = var_uint(data, item.start, item.end) if kind == FIELDS else (0, item.start)
     annotations = annotations_start(data, at, item.descriptor)
-    return record(FIELD if kind == FIELDS else VALUE, item.byte, item.start, annotations, item.descriptor, item.body, item.end, field)
+    words = [FIELD if kind == FIELDS else VALUE, item.byte, item.start, annotations, item.descriptor, item.body, item.end, field]
+    return record(*words, length=item.end - item.body)
 
 
 def step(data, start, end, position, kind):
@@ -93,7 +97,7 @@ def step_in(data, start, end, position):
     item = value_at(data, start, end, position)
     refuse_if(not steps.is_open(item.byte), 52, item.descriptor)
     part = 2 if item.byte // 16 == steps.STRUCT else 1
-    return record(BODY, part, item.descriptor, 0, 0, item.body, item.end)
+    return record(BODY, part, item.descriptor, 0, 0, item.body, item.end, length=item.end - item.body)
 
 
 def float_bits(body):
@@ -140,7 +144,7 @@ def reading(data, item):
 def scalar(data, start, end, position):
     item = value_at(data, start, end, position)
     what, number, first, past = reading(data, item)
-    return record(SCALAR, item.byte, item.descriptor, what, number, first, past)
+    return record(SCALAR, item.byte, item.descriptor, what, number, first, past, length=past - first)
 
 
 def var_int(data, at, end):
@@ -210,16 +214,16 @@ def returned(records):
 
 def shown(records, size):
     """A buffer's words, a `;` before each record's, `-` for eight bytes that are as they were; fewer than eight bytes in hexadecimal."""
-    left = b"".join(struct.pack("<8Q", *words) for words in records)
+    left = b"".join(struct.pack(f"<{RECORD_WORDS}Q", *words) for words in records)
     left += bytes([FILL]) * (size - len(left))
-    for at in range(0, size, 8):
-        word = left[at : at + 8]
+    for at in range(0, size, WORD_SIZE):
+        word = left[at : at + WORD_SIZE]
         if at % RECORD_SIZE == 0:
             yield ";"
-        if len(word) < 8:
+        if len(word) < WORD_SIZE:
             yield word.hex().upper()
         else:
-            yield "-" if word == bytes([FILL] * 8) else str(int.from_bytes(word, "little"))
+            yield "-" if word == bytes([FILL] * WORD_SIZE) else str(int.from_bytes(word, "little"))
 
 
 def parsed(question):
@@ -267,7 +271,7 @@ def sign(negative):
 
 
 def told_scalar(data, words):
-    _, byte, _, what, number, start, end, _ = words
+    _, byte, _, what, number, start, end, *_ = words
     if what == NULL:
         return f"null {steps.NAMES[byte // 16]}"
     if what == INT:
@@ -281,7 +285,7 @@ def told_scalar(data, words):
 
 
 def told_number(data, form, words):
-    kind, negative, _, value, _, rest, end, _ = words
+    kind, negative, _, value, _, rest, end, *_ = words
     if kind == REFUSED:
         return told("number", data, words)
     if form == 0:

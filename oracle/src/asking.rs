@@ -69,7 +69,8 @@ impl From<IonError> for Refusal {
     }
 }
 
-/// Where a value lies. `annotations..descriptor` are its annotation bytes, `body..end` its body.
+/// Where a value lies. `annotations..descriptor` are its annotation bytes, `body..end` its body, of
+/// which the Rust keeps the length.
 #[derive(Clone, Copy, Debug, PartialEq)]
 pub struct Spans {
     pub byte: u8,
@@ -78,6 +79,7 @@ pub struct Spans {
     pub descriptor: usize,
     pub body: usize,
     pub end: usize,
+    pub length: usize,
 }
 
 /// What a step hands out.
@@ -142,6 +144,7 @@ pub struct Opened {
     pub descriptor: usize,
     pub body: usize,
     pub end: usize,
+    pub length: usize,
 }
 
 /// What the walk hands out.
@@ -313,6 +316,7 @@ fn spans_of(value: &LazyRawBinaryValue_1_0<'_>, start: usize) -> Spans {
         descriptor,
         body: body.start,
         end: body.end,
+        length: encoded.value_body_length(),
     }
 }
 
@@ -510,6 +514,7 @@ pub fn step_in(asked: &Asked<'_>, position: usize) -> Result<Opened, Refusal> {
         descriptor: value.encoded_value.header_offset(),
         body: body.start,
         end: body.end,
+        length: value.encoded_value.value_body_length(),
     })
 }
 

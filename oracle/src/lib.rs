@@ -43,5 +43,8 @@ pub mod harness;
 pub mod refusals;
 pub mod requests;
 
+/// The words of a record, for the programs that call our reader beside the Rust.
+pub const RECORD_WORDS: usize = 9;
+
 /// The Rust's own files that were compiled, with the hashes that the build found.
 pub const COMPILED: &str = include_str!(concat!(env!("OUT_DIR"), "/compiled.sha256"));

@@ -1,6 +1,6 @@
 //! What a function answered, taken apart: its words, or its refusal.
 
-use crate::raw::{self, Record, RECORD_SIZE};
+use crate::raw::{self, Record, RECORD_SIZE, RECORD_WORDS};
 use crate::refusal::Refusal;
 use std::ops::Range;
 
@@ -23,7 +23,7 @@ pub(crate) mod kind {
 
 /// The words of a record that is no refusal.
 #[derive(Clone, Copy)]
-pub(crate) struct Answer([u64; 8]);
+pub(crate) struct Answer([u64; RECORD_WORDS]);
 
 impl Answer {
     /// Calls a function of `raw` with a record and takes apart what it wrote.
@@ -61,7 +61,7 @@ impl Answer {
         self.0[I]
     }
 
-    /// A word that is a position.
+    /// A word that is a position or a length.
     #[inline]
     pub(crate) fn at<const I: usize>(&self) -> usize {
         self.0[I] as usize

@@ -130,6 +130,8 @@ pub struct Value {
     pub annotations: Range<usize>,
     /// The body, which ends where the value does.
     pub body: Range<usize>,
+    /// How many bytes the body has.
+    pub body_len: usize,
 }
 
 impl Value {
@@ -209,12 +211,26 @@ impl Item {
         }
     }
 
+    /// How many bytes the body has, of a value or a field; 0 for an end and a marker.
+    ///
+    /// ```
+    /// use ion_map::{step, Part};
+    ///
+    /// let map = [0x82, 0x68, 0x69]; // the string "hi"
+    /// assert_eq!(step(&map, Part::stream(&map), 0)?.body_len(), 2);
+    /// assert_eq!(step(&map, Part::stream(&map), 3)?.body_len(), 0);
+    /// # Ok::<(), ion_map::Refusal>(())
+    /// ```
+    pub fn body_len(&self) -> usize {
+        self.value().map_or(0, |value| value.body_len)
+    }
+
     /// What a record of [`raw::step`](crate::raw::step) or [`raw::steps`](crate::raw::steps) says.
     ///
     /// ```
     /// use ion_map::{raw, Item};
     ///
-    /// let mut record = [0; 64];
+    /// let mut record = [0; raw::RECORD_SIZE];
     /// raw::step(&[], 0, 0, 0, 0, &mut record);
     /// assert_eq!(Item::from_record(&record), Ok(Item::End { position: 0 }));
     /// ```
@@ -257,5 +273,6 @@ fn value(answer: &Answer) -> Result<Value, Refusal> {
         start: answer.at::<2>(),
         annotations: answer.span::<3, 4>(),
         body: answer.span::<5, 6>(),
+        body_len: answer.at::<8>(),
     })
 }

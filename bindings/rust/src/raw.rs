@@ -1,15 +1,21 @@
 //! The exported functions as they are: numbers in, records out.
 //!
-//! A record is 64 bytes: eight words of 64 bits, least significant byte first, which [`words`] takes apart. The C
-//! header says which word is which. A function returns 0 or a refusal's number; where a buffer is under 64 bytes it
-//! returns 51 and writes nothing. All that the header asks of pointers holds of any slices, so all of these are safe.
+//! A record has [`RECORD_WORDS`] words of 64 bits, least significant byte first, which [`words`] takes apart. The C
+//! header says which word is which. A function returns 0 or a refusal's number; where a buffer is shorter than a record
+//! it returns 51 and writes nothing. All that the header asks of pointers holds of any slices, so all of these are safe.
 //!
 //! The rest of the crate is made of these functions, and no other module has unsafe code.
 
 #![allow(unsafe_code)]
 
+/// How many words a record has.
+pub const RECORD_WORDS: usize = 9;
+
+/// How many bytes a word has.
+const WORD_SIZE: usize = size_of::<u64>();
+
 /// How many bytes a record has.
-pub const RECORD_SIZE: usize = 64;
+pub const RECORD_SIZE: usize = RECORD_WORDS * WORD_SIZE;
 
 /// A record.
 pub type Record = [u8; RECORD_SIZE];
@@ -78,17 +84,17 @@ extern "C" {
     fn ion_map_walked(map: *const u8, map_len: usize, most: u64) -> u64;
 }
 
-/// The eight words of a record.
+/// The words of a record.
 ///
 /// ```
-/// let mut record = [0; 64];
+/// let mut record = [0; ion_map::raw::RECORD_SIZE];
 /// record[8] = 7;
-/// assert_eq!(ion_map::raw::words(&record), [0, 7, 0, 0, 0, 0, 0, 0]);
+/// assert_eq!(ion_map::raw::words(&record), [0, 7, 0, 0, 0, 0, 0, 0, 0]);
 /// ```
 #[inline]
-pub fn words(record: &Record) -> [u64; 8] {
-    let mut words = [0; 8];
-    for (word, bytes) in words.iter_mut().zip(record.chunks_exact(8)) {
+pub fn words(record: &Record) -> [u64; RECORD_WORDS] {
+    let mut words = [0; RECORD_WORDS];
+    for (word, bytes) in words.iter_mut().zip(record.chunks_exact(WORD_SIZE)) {
         // Every chunk has eight bytes, so the other case never comes.
         *word = u64::from_le_bytes(bytes.try_into().unwrap_or_default());
     }
@@ -98,11 +104,11 @@ pub fn words(record: &Record) -> [u64; 8] {
 /// One step through the part `start..end`, which is a stream, a sequence or a struct (0, 1, 2).
 ///
 /// ```
-/// let mut record = [0; 64];
+/// let mut record = [0; ion_map::raw::RECORD_SIZE];
 /// assert_eq!(ion_map::raw::step(&[0x21, 0x07], 0, 2, 0, 0, &mut record), 0);
-/// assert_eq!(ion_map::raw::words(&record), [2, 0x21, 0, 0, 0, 1, 2, 0]);
+/// assert_eq!(ion_map::raw::words(&record), [2, 0x21, 0, 0, 0, 1, 2, 0, 1]);
 /// assert_eq!(ion_map::raw::step(&[0x21, 0x07], 0, 2, 0, 3, &mut record), 50);
-/// assert_eq!(ion_map::raw::step(&[0x21, 0x07], 0, 2, 0, 0, &mut record[..63]), 51);
+/// assert_eq!(ion_map::raw::step(&[0x21, 0x07], 0, 2, 0, 0, &mut record[1..]), 51);
 /// ```
 pub fn step(map: &[u8], start: usize, end: usize, position: usize, kind: u64, out: &mut [u8]) -> u64 {
     // SAFETY: a slice's pointer is never null and has as many bytes as the slice, and `out`, being borrowed for
@@ -124,9 +130,9 @@ pub fn step(map: &[u8], start: usize, end: usize, position: usize, kind: u64, ou
 /// The annotation at `position` of the annotation bytes `start..end`.
 ///
 /// ```
-/// let mut record = [0; 64];
+/// let mut record = [0; ion_map::raw::RECORD_SIZE];
 /// assert_eq!(ion_map::raw::annotation(&[0xE3, 0x81, 0x84, 0x20], 2, 3, 2, &mut record), 0);
-/// assert_eq!(ion_map::raw::words(&record), [5, 0, 2, 4, 0, 0, 3, 0]);
+/// assert_eq!(ion_map::raw::words(&record), [5, 0, 2, 4, 0, 0, 3, 0, 0]);
 /// ```
 pub fn annotation(map: &[u8], start: usize, end: usize, position: usize, out: &mut [u8]) -> u64 {
     // SAFETY: as in `step`.
@@ -146,9 +152,9 @@ pub fn annotation(map: &[u8], start: usize, end: usize, position: usize, out: &m
 /// The body of the container at `position` of the part `start..end`.
 ///
 /// ```
-/// let mut record = [0; 64];
+/// let mut record = [0; ion_map::raw::RECORD_SIZE];
 /// assert_eq!(ion_map::raw::step_in(&[0xB1, 0x20], 0, 2, 0, &mut record), 0);
-/// assert_eq!(ion_map::raw::words(&record), [6, 1, 0, 0, 0, 1, 2, 0]);
+/// assert_eq!(ion_map::raw::words(&record), [6, 1, 0, 0, 0, 1, 2, 0, 1]);
 /// ```
 pub fn step_in(map: &[u8], start: usize, end: usize, position: usize, out: &mut [u8]) -> u64 {
     // SAFETY: as in `step`.
@@ -168,9 +174,9 @@ pub fn step_in(map: &[u8], start: usize, end: usize, position: usize, out: &mut 
 /// The scalar at `position` of the part `start..end`.
 ///
 /// ```
-/// let mut record = [0; 64];
+/// let mut record = [0; ion_map::raw::RECORD_SIZE];
 /// assert_eq!(ion_map::raw::scalar(&[0x71, 0x0A], 0, 2, 0, &mut record), 0);
-/// assert_eq!(ion_map::raw::words(&record), [7, 0x71, 0, 6, 10, 0, 0, 0]);
+/// assert_eq!(ion_map::raw::words(&record), [7, 0x71, 0, 6, 10, 0, 0, 0, 0]);
 /// ```
 pub fn scalar(map: &[u8], start: usize, end: usize, position: usize, out: &mut [u8]) -> u64 {
     // SAFETY: as in `step`.
@@ -190,9 +196,9 @@ pub fn scalar(map: &[u8], start: usize, end: usize, position: usize, out: &mut [
 /// The number at `position` of the part `start..end`: a VarUInt, a VarInt or an Int of `length` bytes (0, 1, 2).
 ///
 /// ```
-/// let mut record = [0; 64];
+/// let mut record = [0; ion_map::raw::RECORD_SIZE];
 /// assert_eq!(ion_map::raw::number(&[0x0F, 0xD0], 0, 2, 0, 0, 0, &mut record), 0);
-/// assert_eq!(ion_map::raw::words(&record), [8, 0, 0, 2000, 0, 2, 2, 0]);
+/// assert_eq!(ion_map::raw::words(&record), [8, 0, 0, 2000, 0, 2, 2, 0, 0]);
 /// ```
 pub fn number(map: &[u8], start: usize, end: usize, position: usize, form: u64, length: usize, out: &mut [u8]) -> u64 {
     // SAFETY: as in `step`.
@@ -215,11 +221,11 @@ pub fn number(map: &[u8], start: usize, end: usize, position: usize, form: u64, 
 /// returned, and how many there are.
 ///
 /// ```
-/// let mut records = [[0; 64]; 4];
+/// let mut records = [[0; ion_map::raw::RECORD_SIZE]; 4];
 /// let (refused, count) = ion_map::raw::steps(&[0x20, 0x11], 0, 2, 0, 0, records.as_flattened_mut());
 /// assert_eq!((refused, count), (0, 3));
-/// assert_eq!(ion_map::raw::words(&records[1]), [2, 0x11, 1, 1, 1, 2, 2, 0]);
-/// assert_eq!(ion_map::raw::words(&records[2]), [0, 0, 2, 0, 0, 0, 0, 0]);
+/// assert_eq!(ion_map::raw::words(&records[1]), [2, 0x11, 1, 1, 1, 2, 2, 0, 0]);
+/// assert_eq!(ion_map::raw::words(&records[2]), [0, 0, 2, 0, 0, 0, 0, 0, 0]);
 /// ```
 pub fn steps(map: &[u8], start: usize, end: usize, position: usize, kind: u64, out: &mut [u8]) -> (u64, u64) {
     let mut count = 0;

@@ -73,7 +73,7 @@ refusals! {
     NOT_VERSION_1_0 = 60, "a marker that isn't 1.0";
 
     OUTSIDE = 50, "a part or a position outside the map or out of order";
-    RECORD_TOO_SHORT = 51, "a record buffer under 64 bytes";
+    RECORD_TOO_SHORT = 51, "a buffer shorter than a record";
     NOT_A_CONTAINER = 52, "stepping into what isn't a container or is null";
     INPUT_TOO_LONG = 54, "more input than is taken";
 

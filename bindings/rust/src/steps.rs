@@ -167,6 +167,8 @@ pub struct Body {
     pub descriptor: usize,
     /// The body, for further steps.
     pub part: Part,
+    /// How many bytes the body has.
+    pub body_len: usize,
 }
 
 /// The body of the container at `position`, its descriptor's or its wrapper's. `part` is the one that handed the
@@ -189,6 +191,7 @@ pub fn step_in(map: &[u8], part: Part, position: usize) -> Result<Body, Refusal>
         (kind::BODY, Some(kind)) => Ok(Body {
             descriptor: answer.at::<2>(),
             part: Part::new(kind, answer.span::<5, 6>()),
+            body_len: answer.at::<8>(),
         }),
         _ => Err(Refusal::unknown_answer()),
     }

@@ -7,6 +7,7 @@ use ion_map::{
     annotation, annotations, int, items, raw, scalar, step, step_in, var_int, var_uint, walk, walked, Part, PartKind,
     Refusal,
 };
+use raw::RECORD_SIZE;
 use std::ops::Range;
 
 const KINDS: [PartKind; 3] = [PartKind::Stream, PartKind::Sequence, PartKind::Struct];
@@ -83,8 +84,8 @@ fn iterators_over_parts_outside_refuse_once() {
 #[test]
 fn short_buffers_and_unknown_kinds() {
     let map = [0xB1, 0x20];
-    for length in 0..64 {
-        let mut out = [0xAA; 64];
+    for length in 0..RECORD_SIZE {
+        let mut out = [0xAA; RECORD_SIZE];
         let out = &mut out[..length];
         assert_eq!(raw::step(&map, 9, 0, 9, 9, out), 51);
         assert_eq!(raw::annotation(&map, 9, 0, 9, out), 51);
@@ -94,21 +95,21 @@ fn short_buffers_and_unknown_kinds() {
         assert_eq!(raw::steps(&map, 9, 0, 9, 9, out), (51, 0));
         assert!(out.iter().all(|byte| *byte == 0xAA));
     }
-    let mut out = [0; 64];
+    let mut out = [0xAA; RECORD_SIZE];
     for kind in [3, u64::MAX] {
         assert_eq!(raw::step(&map, 0, 2, 0, kind, &mut out), 50);
         assert_eq!(raw::steps(&map, 0, 2, 0, kind, &mut out), (50, 1));
         assert_eq!(raw::number(&map, 0, 2, 0, kind, 0, &mut out), 50);
-        assert_eq!(raw::words(&out), [9, 50, 0, 0, 0, 0, 0, 0]);
+        assert_eq!(raw::words(&out), [9, 50, 0, 0, 0, 0, 0, 0, 0]);
     }
 }
 
 #[test]
 fn longer_buffers_keep_their_further_bytes() {
-    let mut out = [0xAA; 100];
+    let mut out = [0xAA; 2 * RECORD_SIZE - 1];
     assert_eq!(raw::step(&[0x20], 0, 1, 0, 0, &mut out), 0);
     assert_eq!(raw::steps(&[0x20], 0, 1, 0, 0, &mut out), (0, 1));
-    assert!(out[64..].iter().all(|byte| *byte == 0xAA));
+    assert!(out[RECORD_SIZE..].iter().all(|byte| *byte == 0xAA));
 }
 
 /// All there is to ask of a map, with what must hold of any.
@@ -138,6 +139,7 @@ fn check_run(map: &[u8], part: Part) {
             let (descriptor, body) = (value.descriptor(), &value.body);
             assert!(span.start <= value.annotations.start && value.annotations.start <= descriptor);
             assert!(descriptor < body.start && body.start <= body.end && body.end == span.end);
+            assert_eq!(value.body_len, body.len());
             assert_eq!(map[descriptor], value.byte);
         }
         at = span.end;
@@ -154,8 +156,9 @@ fn check_walk(map: &[u8]) {
         count += 1;
         assert!(depth <= ion_map::MOST_DEPTH);
         if let Some(value) = item.value() {
-            let body = step_in(map, walk.part(), value.descriptor());
-            assert_eq!(body.ok().map(|body| body.part), value.part());
+            let body = step_in(map, walk.part(), value.descriptor()).ok();
+            assert_eq!(body.map(|body| body.part), value.part());
+            assert_eq!(body.map(|body| body.body_len), value.part().map(|_| value.body_len));
         }
     }
     assert_eq!(walked(map, u64::MAX), count);

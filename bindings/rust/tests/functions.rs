@@ -1,7 +1,7 @@
 //! A short example of each function, with the maps at the edges.
 
 use ion_map::{
-    annotation, annotations, int, items, scalar, step, step_in, var_int, var_uint, walk, walked, Body, Item, Part,
+    annotation, annotations, int, items, raw, scalar, step, step_in, var_int, var_uint, walk, walked, Body, Item, Part,
     PartKind, Refusal, Scalar, Type,
 };
 use std::error::Error;
@@ -34,6 +34,30 @@ fn steps() {
     };
     assert_eq!((int.byte, int.ion_type, int.descriptor()), (0x20, Type::Int, 3));
     assert_eq!((int.span(), int.annotations, int.body), (0..4, 2..3, 4..4));
+}
+
+/// Word 8 of every kind of record: a body's length, of a scalar its part's, else 0.
+#[test]
+fn lengths() {
+    let length = |map: &[u8]| first(map).map(|item| item.body_len());
+    assert_eq!(length(&[]), Ok(0));
+    assert_eq!(length(&[0xE0, 0x01, 0x00, 0xEA]), Ok(0));
+    assert_eq!(length(&[0x22, 0x00, 0x07]), Ok(2));
+    assert_eq!(length(&[0x8E, 0x83, 0x61, 0x62, 0x63]), Ok(3));
+    assert_eq!(length(&[0xE4, 0x81, 0x84, 0x21, 0x07]), Ok(1));
+    assert_eq!(length(&[0xD1, 0x82, 0x84, 0x20]), Ok(2));
+    assert_eq!(length(&[0xDF]), Ok(0));
+
+    let map = [0x22, 0x00, 0x07, 0xD2, 0x84, 0x12];
+    let mut record = [0xAA; raw::RECORD_SIZE];
+    raw::scalar(&map, 0, 6, 0, &mut record);
+    assert_eq!(raw::words(&record), [7, 0x22, 0, 2, 0, 2, 3, 0, 1]);
+    raw::step(&map, 4, 6, 4, 2, &mut record);
+    assert_eq!(raw::words(&record), [3, 0x12, 4, 5, 5, 6, 6, 4, 0]);
+    raw::step_in(&map, 0, 6, 3, &mut record);
+    assert_eq!(raw::words(&record), [6, 2, 3, 0, 0, 4, 6, 0, 2]);
+    raw::scalar(&map, 4, 6, 5, &mut record);
+    assert_eq!(raw::words(&record), [9, 33, 5, 0, 0, 0, 0, 0, 0]);
 }
 
 #[test]
@@ -131,6 +155,7 @@ fn stepping_in() {
     let body = Body {
         descriptor: 3,
         part: Part::new(PartKind::Sequence, 4..5),
+        body_len: 1,
     };
     assert_eq!(step_in(&map, stream, 0), Ok(body));
     assert_eq!(step_in(&map, stream, 3), Ok(body));

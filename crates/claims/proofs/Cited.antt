@@ -16,7 +16,9 @@ use Rattle.values.proofs.Edges.{edges}
 use Rattle.walking.proofs.Exact.{exact, never-outside}
 use Rattle.runs.proofs.Overwriting.{still-reached}
 use Rattle.runs.proofs.Program.{program-ends, program-tiling, program-overwriting}
+use Rattle.records.proofs.FirstBytes.{first-bytes}
 use Rattle.maps.proofs.RunsOfCalls.{runs-of-calls}
+use Rattle.maps.proofs.RecordsBegin.{records-begin}
 use Rattle.claims.specs.Claims.{Total, WholeRuns, Equal}
 
 module _ (M : Type 1) (𝓤 : URA M) (H : Heap 𝓤) (𝓜 : Model 𝓤 H) (𝓖 : GhostRules 𝓤 H) (κs : Lfts 1) where
@@ -51,5 +53,7 @@ equal =
       stepsComplete = steps-complete;
       scalars = scalars-meant;
       walk = exact;
+      firstBytes = first-bytes;
+      recordsBegin = records-begin;
       edges = edges;
     }

@@ -15,7 +15,8 @@ use Rattle.values.specs.Edges.{Edges}
 use Rattle.walking.specs.Theorems.{Exact, NeverOutside}
 use Rattle.runs.specs.Theorems.{StillReached}
 use Rattle.runs.specs.Program.{ProgramEnds, ProgramTiling, ProgramOverwriting}
-use Rattle.maps.specs.Theorems.{RunsOfCalls}
+use Rattle.records.specs.Theorems.{FirstBytes}
+use Rattle.maps.specs.Theorems.{RunsOfCalls, RecordsBegin}
 
 -- Of the machine's own calls: in every model of the machine, for whichever borrow lends the map.
 module _ (M : Type 1) (𝓤 : URA M) (H : Heap 𝓤) (𝓜 : Model 𝓤 H) (𝓖 : GhostRules 𝓤 H) (κs : Lfts 1) where
@@ -65,5 +66,8 @@ pub record Equal : Type 0 where
   pub scalars : ScalarsMeant
   -- the walk: "Markers and values in order, a non-null container before what is in it"
   pub walk : Exact
+  -- the records, by the change request A.6: "The first eight words keep their meaning", in single calls and in many steps
+  pub firstBytes : FirstBytes
+  pub recordsBegin : RecordsBegin
   -- the maps at the edges that are to be proved
   pub edges : Edges

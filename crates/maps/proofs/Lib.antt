@@ -1,3 +1,4 @@
 pub mod Within
 pub mod ManySteps
 pub mod RunsOfCalls
+pub mod RecordsBegin

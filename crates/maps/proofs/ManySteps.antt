@@ -17,9 +17,9 @@ use Rattle.stepping.specs.declared.cursor.Left.the-variants.{At, Over}
 use Rattle.stepping.specs.declared.cursor.Rules.{Rules}
 use Rattle.stepping.proofs.Places.{a-marker, a-value, a-field, in-ends}
 use Rattle.stepping.proofs.Moves.{Moves, ends, hands, stops, moves}
-use Rattle.records.specs.Buffer.{littleEndian, wordSize, bytesOf, recordWords, recordSize, recordIn, numberOf, numberIn, returnedBy}
+use Rattle.records.specs.Buffer.{bytesOf, recordWords, recordSize, recordIn, numberOf, numberIn, returnedBy}
 use Rattle.records.specs.Words.{words}
-use Rattle.records.proofs.Storing.{sets-append, length-bytes, record-is}
+use Rattle.records.proofs.Storing.{sets-append, length-bytes, bytes-append, record-is}
 use Rattle.maps.specs.Steps.{allWords, recordsIn}
 use Rattle.maps.specs.Private.Run.{stepRun}
 
@@ -65,11 +65,6 @@ words-all (gives (value v)) = refl
 words-all (gives (field id a v)) = refl
 words-all (refuses n p) = refl
 
-bytes-append : (a b : List ℕ) → bytesOf (a ++ b) ≡ bytesOf a ++ bytesOf b
-bytes-append [] b = refl
-bytes-append (w ∷ a) b =
-    ap (λ (z : List ℕ). littleEndian wordSize w ++ z) (bytes-append a b) ∙ sym (append-assoc (littleEndian wordSize w) (bytesOf a) (bytesOf b))
-
 -- the next record stored, and those behind it
 pub next-record : (l : List ℕ) (i : ℕ) (o : Outcome Item) (os : List (Outcome Item)) → sets (sets l i (bytesOf (words o))) (i + recordSize) (bytesOf (allWords os)) ≡ sets l i (bytesOf (allWords (o ∷ os)))
 next-record l i o os =
@@ -101,7 +96,7 @@ put-part ws old at e h =
     ∙ sym (append-assoc (take at old) (bytesOf ws) (drop (at + length (bytesOf ws)) old))
     ∙ sym (sets-eq (bytesOf ws) old at (omega arith))
 
-length-all : (os : List (Outcome Item)) → length (allWords os) ≡ recordWords * length os
+pub length-all : (os : List (Outcome Item)) → length (allWords os) ≡ recordWords * length os
 length-all [] = refl
 length-all (o ∷ os) = length-append (words o) (allWords os) ∙ omega (arith, words-all o, length-all os)
 

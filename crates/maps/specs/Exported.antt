@@ -10,7 +10,7 @@ use Rattle.stepping.specs.Items.{Item}
 use Rattle.stepping.specs.Answers.{answerAt}
 use Rattle.stepping.specs.Kinds.{rulesOf}
 use Rattle.values.specs.Scalars.{valueIn}
-use Rattle.records.specs.Words.{Entered, enter, Number, ofUnsigned, ofSigned, ofFixed}
+use Rattle.records.specs.FirstWords.{Entered, enter, Number, ofUnsigned, ofSigned, ofFixed}
 
 -- "Exported steps take slice, body start, body end, position" and the part's kind. 50: "parts or positions outside the slice, out of order, a part kind above
 -- 2"; what start, the position and the kind do not settle of it, the step says.

@@ -101,7 +101,7 @@ fn step_by_kind(map: &[u8], start: usize, end: usize, position: usize, kind: u64
     item_inside(rules_of(kind), map, position, end)
 }
 
-// One step. Its record is put at the start of `out`, 64 bytes; returned is 0 or the refusal's number.
+// One step. Its record is put at the start of `out`; returned is 0 or the refusal's number.
 #[no_mangle]
 pub extern "C" fn ion_map_step(
     map: &[u8],

@@ -13,11 +13,11 @@ use questions::text::Line;
 use questions::text::number;
 use questions::text::part;
 use questions::text::word;
+use records::buffer::RECORD_SIZE;
+use records::buffer::RECORD_WORDS;
 
-// The scope paper's record: eight words of eight bytes.
-const WORD_SIZE: usize = 8;
-
-const RECORD_SIZE: usize = 64;
+// The bytes of a word.
+const WORD_SIZE: usize = RECORD_SIZE / RECORD_WORDS;
 
 // What a byte of a buffer is before the call, and a word of such bytes.
 const FILL: u8 = 0xAA;
@@ -25,10 +25,10 @@ const FILL: u8 = 0xAA;
 const UNTOUCHED: u64 = 0xAAAA_AAAA_AAAA_AAAA;
 
 // Room for the longest buffer that is lent.
-fn room() -> [u8; 640]
-    ensures { λ r. ⌜ 640 ≡ length r ⌝ }
+fn room() -> [u8; 1024]
+    ensures { λ r. ⌜ 1024 ≡ length r ⌝ }
 {
-    [FILL; 640]
+    [FILL; 1024]
 }
 
 // The arguments of a call are the words of its line after the bytes, in the header's order, the buffer's length last.

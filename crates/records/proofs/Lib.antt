@@ -1,3 +1,4 @@
 pub mod Storing
 pub mod Numbers
+pub mod FirstBytes
 pub mod Examples

@@ -10,7 +10,8 @@ use Rattle.framing.specs.Spans.{Spans}
 use Rattle.framing.specs.Answers.{Annotated, ident, finished}
 use Rattle.stepping.specs.Items.{Item, finish, marker, value, field}
 use Rattle.values.specs.Scalars.{valueIn, Opened, opened, Scalar, scalarOf, readScalar, withValue, readWithValue}
-use Rattle.records.specs.Words.{words, annotationWords, enteredAt, enter, bodyWords, scalarWords, readingWords, Number, numberWords}
+use Rattle.records.specs.FirstWords.{enteredAt, enter, Number}
+use Rattle.records.specs.Words.{words, annotationWords, bodyWords, scalarWords, readingWords, numberWords}
 use Rattle.records.specs.Buffer.{recordSize, numberOf, returned, numberIn, returnedBy}
 
 pub step-number : (o : Outcome Item) → numberIn (words o) ≡ numberOf o

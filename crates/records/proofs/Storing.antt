@@ -6,7 +6,7 @@ use native.Mathlib.Nat.{add-zero}
 use native.Mathlib.Numerals.{add-one}
 use borrow.Author.Tests.{le-ltb}
 use mathlib.Core.Path.{_≡_, refl, _∙_, sym, ap}
-use mathlib.Core.List.{List, [], _∷_, _++_}
+use mathlib.Core.List.{List, [], _∷_, _++_, append-assoc}
 use lib.ListN.{length, getD, set, drop, length-append}
 use lib.Seq.{sets, sets-eq, drop-cons}
 use Rattle.records.specs.Buffer.{littleEndian, wordSize, bytesOf, recordWords, recordSize, recordIn}
@@ -26,6 +26,11 @@ pub length-bytes : (ws : List ℕ) → length (bytesOf ws) ≡ wordSize * length
 length-bytes [] = refl
 length-bytes (w ∷ ws) =
     length-append (littleEndian wordSize w) (bytesOf ws) ∙ (let e : length (littleEndian wordSize w) ≡ wordSize = length-little wordSize w in omega (arith, e, length-bytes ws))
+
+pub bytes-append : (ws vs : List ℕ) → bytesOf (ws ++ vs) ≡ bytesOf ws ++ bytesOf vs
+bytes-append [] vs = refl
+bytes-append (w ∷ ws) vs =
+    ap (λ (l : List ℕ). littleEndian wordSize w ++ l) (bytes-append ws vs) ∙ sym (append-assoc (littleEndian wordSize w) (bytesOf ws) (bytesOf vs))
 
 -- the first word stored, and those behind it
 pub sets-word : (l : List ℕ) (i w : ℕ) (ws : List ℕ) → sets (sets l i (littleEndian wordSize w)) (i + wordSize) (bytesOf ws) ≡ sets l i (bytesOf (w ∷ ws))

@@ -1,4 +1,4 @@
--- The scope paper's "Record": the bytes of eight words, and what a call leaves in the buffer and returns.
+-- The scope paper's "Record": the bytes of words, and what a call leaves in the buffer and returns.
 -- Assumes nothing.
 use Prim.Native.Nat.{ℕ, zero, suc, _*_, _/_, _%_}
 use mathlib.Core.List.{List, [], _∷_, _++_}
@@ -20,15 +20,15 @@ abbrev pub bytesOf : List ℕ → List ℕ
 bytesOf [] = []
 bytesOf (w ∷ ws) = littleEndian wordSize w ++ bytesOf ws
 
--- a record has "eight u64"
+-- A.6: the scope paper's "eight u64", and word 8
 abbrev pub recordWords : ℕ
-recordWords = 8
+recordWords = 9
 
--- its bytes
+-- its bytes: "The record becomes 72 bytes"
 abbrev pub recordSize : ℕ
 recordSize = recordWords * wordSize
 
--- "51 record buffer under 64 bytes, tested first, nothing written"; else the record, and "longer buffers keep their further bytes"
+-- "51 record buffer under 64 bytes, tested first, nothing written", by A.6 "under 72 bytes"; else the record, and "longer buffers keep their further bytes"
 unfoldable pub recordIn : List ℕ → List ℕ → List ℕ
 recordIn ws old = pick (ltb (length old) recordSize) old (bytesOf ws ++ drop recordSize old)
 

@@ -1,2 +1,4 @@
 pub mod Buffer
+pub mod FirstWords
 pub mod Words
+pub mod Theorems

@@ -7,7 +7,7 @@ ghost use Rattle.records.specs.Buffer.{littleEndian, wordSize, bytesOf, 
 use numbers::refusal::RECORD_TOO_SHORT;
 
 // The words of a record, the bytes of a word, and those of a record.
-pub const RECORD_WORDS: usize = 8;
+pub const RECORD_WORDS: usize = 9;
 
 const WORD_SIZE: usize = 8;
 

@@ -1,11 +1,13 @@
 // The words of each kind of record.
 ghost use mathlib.Core.Path.{_≡_};
+ghost use Prim.Native.Nat.{_-_};
 ghost use mathlib.Core.List.{[], _∷_};
 ghost use Rattle.numbers.specs.Outcome.{andThen};
 ghost use Rattle.framing.specs.Read.{annotationRead, spansOf};
 ghost use Rattle.stepping.specs.Read.{itemRead};
 ghost use Rattle.values.specs.Read.{bodyRead, scalarRead};
-ghost use Rattle.records.specs.Words.{words, valueWords, endWords, refusedWords, annotationWords, enteredAt, bodyWords, oneIf, scalarWords};
+ghost use Rattle.records.specs.FirstWords.{enteredAt, oneIf};
+ghost use Rattle.records.specs.Words.{words, valueWords, endWords, refusedWords, annotationWords, bodyWords, scalarWords};
 use crate::buffer::RECORD_WORDS;
 use crate::buffer::REFUSED;
 use framing::annotations_iterator::Annotation;
@@ -23,6 +25,16 @@ fn wide(x: u8) -> u64
     x as u64
 }
 
+// How many bytes start..end has: none where its end stands before its start.
+fn size_of(start: usize, end: usize) -> u64
+    ensures { λ r. ⌜ r ≡ end - start ⌝ }
+{
+    if end < start {
+        return 0;
+    }
+    (end - start) as u64
+}
+
 // The words of a value or a field.
 fn value_words(kind: u64, start: usize, value: EncodedValue, id: usize) -> [u64; RECORD_WORDS]
     ensures { λ r. ⌜ r ≡ valueWords kind start (spansOf value) id ⌝ }
@@ -36,6 +48,7 @@ fn value_words(kind: u64, start: usize, value: EncodedValue, id: usize) -> [u64;
         value.body as u64,
         value.end as u64,
         id as u64,
+        size_of(value.body, value.end),
     ]
 }
 
@@ -43,7 +56,7 @@ fn value_words(kind: u64, start: usize, value: EncodedValue, id: usize) -> [u64;
 pub fn end_words(position: usize) -> [u64; RECORD_WORDS]
     ensures { λ r. ⌜ r ≡ endWords position ⌝ }
 {
-    [0, 0, position as u64, 0, 0, 0, 0, 0]
+    [0, 0, position as u64, 0, 0, 0, 0, 0, 0]
 }
 
 // The words of a step's answer.
@@ -66,6 +79,7 @@ pub fn item_words(item: Item) -> [u64; RECORD_WORDS]
             end as u64,
             end as u64,
             0,
+            0,
         ],
         Item::Value(value) => value_words(2, value.start, value, 0),
         Item::Field { id, start, value } => value_words(3, start, value, id),
@@ -81,6 +95,7 @@ pub fn refused_words(refusal: Refusal) -> [u64; RECORD_WORDS]
         REFUSED,
         refusal.number,
         refusal.position as u64,
+        0,
         0,
         0,
         0,
@@ -104,7 +119,7 @@ pub fn annotation_words(position: usize, annotation: Annotation) -> [u64; RECORD
     ensures { λ r. ⌜ r ≡ annotationWords position (annotationRead annotation) ⌝ }
 {
     match annotation {
-        Annotation::Id { id, next } => [5, 0, position as u64, id as u64, 0, 0, next as u64, 0],
+        Annotation::Id { id, next } => [5, 0, position as u64, id as u64, 0, 0, next as u64, 0, 0],
         Annotation::End => end_words(position),
         Annotation::Refused(refusal) => refused_words(refusal),
     }
@@ -124,6 +139,7 @@ pub fn body_words(descriptor: usize, body: Body) -> [u64; RECORD_WORDS]
             cursor.at as u64,
             cursor.end as u64,
             0,
+            size_of(cursor.at, cursor.end),
         ],
         Body::Refused(refusal) => refused_words(refusal),
     }
@@ -137,7 +153,7 @@ fn reading_words(
     start: usize,
     end: usize,
 ) -> [u64; RECORD_WORDS]
-    ensures { λ r. ⌜ r ≡ 7 ∷ value .byte ∷ value .descriptor ∷ what ∷ worth ∷ start ∷ end ∷ 0 ∷ [] ⌝ }
+    ensures { λ r. ⌜ r ≡ 7 ∷ value .byte ∷ value .descriptor ∷ what ∷ worth ∷ start ∷ end ∷ 0 ∷ (end - start) ∷ [] ⌝ }
 {
     [
         7,
@@ -148,6 +164,7 @@ fn reading_words(
         start as u64,
         end as u64,
         0,
+        size_of(start, end),
     ]
 }
 
@@ -192,7 +209,7 @@ pub fn number_words(
     rest: usize,
     end: usize,
 ) -> [u64; RECORD_WORDS]
-    ensures { λ r. ⌜ r ≡ 8 ∷ oneIf negative ∷ position ∷ value ∷ 0 ∷ rest ∷ end ∷ 0 ∷ [] ⌝ }
+    ensures { λ r. ⌜ r ≡ 8 ∷ oneIf negative ∷ position ∷ value ∷ 0 ∷ rest ∷ end ∷ 0 ∷ 0 ∷ [] ⌝ }
 {
     [
         8,
@@ -202,6 +219,7 @@ pub fn number_words(
         0,
         rest as u64,
         end as u64,
+        0,
         0,
     ]
 }

@@ -1,6 +1,6 @@
 //! What a record must hold for the Rust's answer to be ours.
 
-use crate::ours::{Part, Record};
+use crate::ours::{Part, Record, WORDS};
 use oracle::asking::{Annotation, Item, Number, Opened, Reading, Refusal, Scalar, Spans};
 use oracle::requests::Request;
 use oracle::IonType;
@@ -8,9 +8,9 @@ use oracle::IonType;
 /// Words, some of which the Rust leaves open, and a test of those.
 #[derive(Clone, Copy, Debug)]
 pub struct Expected {
-    words: [u64; 8],
+    words: [u64; WORDS],
     /// A bit for each word that is open.
-    open: u8,
+    open: u16,
     test: Test,
     /// The harness's answer, not the Rust's.
     own: bool,
@@ -35,7 +35,7 @@ enum Test {
 }
 
 impl Expected {
-    fn exactly(words: [u64; 8]) -> Self {
+    fn exactly(words: [u64; WORDS]) -> Self {
         Expected {
             words,
             open: 0,
@@ -45,7 +45,7 @@ impl Expected {
         }
     }
 
-    fn except(words: [u64; 8], open: &[usize], test: Test) -> Self {
+    fn except(words: [u64; WORDS], open: &[usize], test: Test) -> Self {
         let open = open.iter().fold(0, |bits, word| bits | 1 << word);
         Expected {
             words,
@@ -57,7 +57,7 @@ impl Expected {
     }
 
     pub fn refused(refusal: Refusal) -> Self {
-        let words = |position| [9, refusal.number as u64, position as u64, 0, 0, 0, 0, 0];
+        let words = |position| [9, refusal.number as u64, position as u64, 0, 0, 0, 0, 0, 0];
         let expected = match refusal.position {
             Some(position) => Expected::exactly(words(position)),
             None => Expected::except(words(0), &[2], Test::Stands),
@@ -70,7 +70,7 @@ impl Expected {
     }
 
     fn end(position: usize) -> Self {
-        Expected::exactly([0, 0, position as u64, 0, 0, 0, 0, 0])
+        Expected::exactly([0, 0, position as u64, 0, 0, 0, 0, 0, 0])
     }
 
     fn value(kind: u64, spans: Spans, id: usize) -> Self {
@@ -83,6 +83,7 @@ impl Expected {
             spans.body as u64,
             spans.end as u64,
             id as u64,
+            spans.length as u64,
         ])
     }
 
@@ -102,6 +103,7 @@ impl Expected {
                 end as u64,
                 end as u64,
                 0,
+                0,
             ]),
             Item::Value(spans) => Expected::value(2, spans, 0),
             Item::Field(id, spans) => Expected::value(3, spans, id),
@@ -113,7 +115,8 @@ impl Expected {
     pub fn annotation(part: Part, annotation: Annotation) -> Self {
         match annotation {
             Annotation::Id { id, next } => {
-                Expected::exactly([5, 0, part.position as u64, id as u64, 0, 0, next as u64, 0])
+                let (start, id, next) = (part.position as u64, id as u64, next as u64);
+                Expected::exactly([5, 0, start, id, 0, 0, next, 0, 0])
             }
             Annotation::End => Expected::end(part.end),
             Annotation::Refused(refusal) => Expected::refused(refusal),
@@ -130,22 +133,23 @@ impl Expected {
             opened.body as u64,
             opened.end as u64,
             0,
+            opened.length as u64,
         ])
     }
 
     pub fn scalar(map: &[u8], reading: Reading) -> Self {
         let spans = reading.spans;
-        let words = |what, number, start, end| {
-            let (start, end) = (start as u64, end as u64);
+        let words = |what, number, start: usize, end: usize| {
             [
                 7,
                 spans.byte as u64,
                 spans.descriptor as u64,
                 what,
                 number,
-                start,
-                end,
+                start as u64,
+                end as u64,
                 0,
+                (end - start) as u64,
             ]
         };
         let without_part =
@@ -158,7 +162,7 @@ impl Expected {
                 magnitude,
             } => Expected::except(
                 words(2, negative as u64, 0, spans.end),
-                &[5],
+                &[5, 8],
                 Test::Magnitude(magnitude),
             ),
             Scalar::LongInt => long_int(map, spans, words),
@@ -184,6 +188,7 @@ impl Expected {
             number.next as u64,
             number.next as u64,
             0,
+            0,
         ])
     }
 
@@ -198,6 +203,7 @@ impl Expected {
                 0,
                 further as u64,
                 number.next as u64,
+                0,
                 0,
             ],
             &[3],
@@ -216,6 +222,7 @@ impl Expected {
             0,
             part.position as u64 + 1,
             (part.position + size) as u64,
+            0,
             0,
         ])
     }
@@ -301,7 +308,7 @@ fn part_word(ion_type: IonType) -> u64 {
 fn long_int(
     map: &[u8],
     spans: Spans,
-    words: impl Fn(u64, u64, usize, usize) -> [u64; 8],
+    words: impl Fn(u64, u64, usize, usize) -> [u64; WORDS],
 ) -> Expected {
     let zeros = map[spans.body..spans.end]
         .iter()
@@ -316,7 +323,7 @@ fn long_int(
 
 impl Test {
     fn is_passed_by(self, map: &[u8], part: Part, record: Record) -> bool {
-        let [_, number, position, word, float, start, end, _] = record.0;
+        let [_, number, position, word, float, start, end, _, length] = record.0;
         match self {
             Test::None => true,
             Test::Stands => {
@@ -325,7 +332,11 @@ impl Test {
             Test::Nan => f64::from_bits(float).is_nan() && start == end,
             Test::NoPart => start == end,
             Test::Magnitude(magnitude) => match part_of(map, start, end) {
-                Some(bytes) => bytes.first() != Some(&0) && folded(0, bytes) == Some(magnitude),
+                Some(bytes) => {
+                    bytes.first() != Some(&0)
+                        && folded(0, bytes) == Some(magnitude)
+                        && bytes.len() as u64 == length
+                }
                 None => false,
             },
             Test::Further(magnitude) => match part_of(map, start, end) {

@@ -3,7 +3,7 @@
 use crate::judge::MOST_ROOM;
 use crate::maps::{joined, run, var_uint, Map, Random};
 use crate::maps::{BAD_TEXTS, DOUBLES, GOOD_TEXTS, INTERESTING, LARGE, SINGLES, SMALL};
-use crate::ours::{Part, Reader, RECORD};
+use crate::ours::{Part, Reader, RECORD, WORD};
 use crate::question::{Ask, ENTRIES, INT, SEQUENCE, STREAM, STRUCT, VAR_INT, VAR_UINT};
 use crate::session::Session;
 
@@ -118,7 +118,8 @@ pub fn ask_whole<R: Reader>(session: &mut Session<R>, map: &[u8], part: Part) {
 
 fn ask_batches<R: Reader>(session: &mut Session<R>, map: &[u8], part: Part) {
     // One record, some, and more than are needed; the rooms aren't all multiples of a record.
-    for (rules, room) in [(STREAM, 64), (SEQUENCE, 200), (STRUCT, 330)] {
+    let rooms = [RECORD, 3 * RECORD + WORD, 5 * RECORD + 10];
+    for (rules, room) in [STREAM, SEQUENCE, STRUCT].into_iter().zip(rooms) {
         session.ask(map, Ask::Batch(rules, room), part);
     }
     session.ask(map, Ask::Batch(STREAM, MOST_ROOM), part);

@@ -1,7 +1,10 @@
 //! Our reader: the functions that `libmaps.a` exports, and the layer through which they are asked.
 
-/// The bytes of a record.
-pub const RECORD: usize = 64;
+pub use oracle::RECORD_WORDS as WORDS;
+
+/// The bytes of a word, and those of a record.
+pub const WORD: usize = size_of::<u64>();
+pub const RECORD: usize = WORDS * WORD;
 
 mod exported {
     extern "C" {
@@ -101,21 +104,20 @@ impl Part {
     }
 }
 
-/// Eight words.
 #[derive(Clone, Copy, Debug, PartialEq)]
-pub struct Record(pub [u64; 8]);
+pub struct Record(pub [u64; WORDS]);
 
 impl Record {
     pub fn read(bytes: &[u8]) -> Self {
-        let mut words = [0; 8];
-        for (word, bytes) in words.iter_mut().zip(bytes.chunks_exact(8)) {
+        let mut words = [0; WORDS];
+        for (word, bytes) in words.iter_mut().zip(bytes.chunks_exact(WORD)) {
             *word = u64::from_le_bytes(bytes.try_into().expect("eight bytes"));
         }
         Record(words)
     }
 
     pub fn write(self, bytes: &mut [u8]) {
-        for (bytes, word) in bytes.chunks_exact_mut(8).zip(self.0) {
+        for (bytes, word) in bytes.chunks_exact_mut(WORD).zip(self.0) {
             bytes.copy_from_slice(&word.to_le_bytes());
         }
     }

@@ -1,7 +1,7 @@
 //! Makes a difference smaller: fewer bytes, then lower ones.
 
 use crate::judge::{Judge, Verdict};
-use crate::ours::{Part, Reader};
+use crate::ours::{Part, Reader, RECORD};
 use crate::question::{Ask, Question};
 use crate::session::Case;
 use std::panic::{catch_unwind, AssertUnwindSafe};
@@ -118,7 +118,10 @@ fn lower_pairs(length: usize, at: usize) -> impl Iterator<Item = (usize, usize)>
 /// The case with a smaller number in the question.
 fn with_less_asked(case: &Case) -> impl Iterator<Item = Case> + '_ {
     let asks: Vec<Ask> = match case.question.ask {
-        Ask::Batch(rules, room) => (64..room).map(|room| Ask::Batch(rules, room)).collect(),
+        Ask::Batch(rules, room) => {
+            let rooms = RECORD..room;
+            rooms.map(|room| Ask::Batch(rules, room)).collect()
+        }
         Ask::Number(form, size) => {
             let sizes = 0..size.min(64);
             sizes.map(|size| Ask::Number(form, size)).collect()

@@ -66,7 +66,7 @@ impl Walk {
             self.refuse(opened);
             return;
         }
-        let [_, rules, _, _, _, start, end, _] = opened.0;
+        let [_, rules, _, _, _, start, end, ..] = opened.0;
         let body = Part {
             start: start as usize,
             end: end as usize,
@@ -92,7 +92,7 @@ fn refusal(number: u32, position: usize) -> Refusal {
 }
 
 fn line(depth: usize, record: Record) -> Line {
-    let [kind, byte, start, _, descriptor, body, end, _] = record.0;
+    let [kind, byte, start, _, descriptor, body, end, ..] = record.0;
     if kind == 1 {
         return Line::Marker {
             start: start as usize,

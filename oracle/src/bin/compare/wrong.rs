@@ -1,7 +1,7 @@
 //! Wrong readers, to show that the comparison notices them: each is our reader with one answer
 //! changed, as a reader that makes this mistake would answer.
 
-use crate::ours::{Exports, Part, Reader, Record, RECORD};
+use crate::ours::{Exports, Part, Reader, Record, RECORD, WORD, WORDS};
 use crate::question::{INT, SEQUENCE, STREAM, STRUCT, VAR_INT};
 use crate::walking::Walk;
 use oracle::asking::{Line, DEPTH_LIMIT};
@@ -96,7 +96,16 @@ mistakes! {
     ScalarEntered "steps into a string"
     SexpAsStruct "reads the body of a sexp as fields"
     OrderedBody "lets the body of an ordered struct begin at its length"
+    // Word 8.
+    LengthFromDescriptor "counts a body's length from the descriptor"
+    LengthOfField "gives no length of a field's body"
+    LengthOfMarker "gives a marker's bytes as the length of its body"
+    LengthOfOpened "gives no length of a body that is stepped into"
+    LengthOfPart "gives the length of an int's body for its magnitude's"
+    LengthOfRefusal "leaves the length in the record of a refusal as it was"
     // Many steps, the buffer and the caller.
+    LengthWithoutRoom "takes a buffer that has room for all but the length"
+    LengthOverwritten "puts many records so close that the next overwrites the length"
     OneStep "does one step where there is room for more"
     StepsOn "goes on after the end"
     CountOff "counts one record too many"
@@ -133,7 +142,7 @@ impl Wrong {
 
 // ===== Changing a record =====
 
-fn put(out: &mut [u8], words: [u64; 8]) -> u64 {
+fn put(out: &mut [u8], words: [u64; WORDS]) -> u64 {
     Record(words).write(&mut out[..RECORD]);
     if words[0] == 9 {
         words[1]
@@ -143,11 +152,11 @@ fn put(out: &mut [u8], words: [u64; 8]) -> u64 {
 }
 
 fn end(out: &mut [u8], position: usize) -> u64 {
-    put(out, [0, 0, position as u64, 0, 0, 0, 0, 0])
+    put(out, [0, 0, position as u64, 0, 0, 0, 0, 0, 0])
 }
 
 fn refuse(out: &mut [u8], number: u64, position: usize) -> u64 {
-    put(out, [9, number, position as u64, 0, 0, 0, 0, 0])
+    put(out, [9, number, position as u64, 0, 0, 0, 0, 0, 0])
 }
 
 /// A value without annotations whose body has `length` bytes, or 8.
@@ -155,15 +164,16 @@ fn value(map: &[u8], part: Part, at: usize, body: usize, length: usize, out: &mu
     if body > part.end || part.end - body < length {
         return refuse(out, 8, at);
     }
-    let (at, body, end) = (at as u64, body as u64, (body + length) as u64);
-    put(out, [2, map[at as usize] as u64, at, at, at, body, end, 0])
+    let byte = map[at] as u64;
+    let (at, body, length) = (at as u64, body as u64, length as u64);
+    put(out, [2, byte, at, at, at, body, body + length, 0, length])
 }
 
 /// The marker at `at`, whatever its last three bytes are.
 fn marker(map: &[u8], at: usize, out: &mut [u8]) -> u64 {
     let [major, minor] = [map[at + 1] as u64, map[at + 2] as u64];
     let (start, end) = (at as u64, at as u64 + 4);
-    put(out, [1, 224, start, major, minor, end, end, 0])
+    put(out, [1, 224, start, major, minor, end, end, 0, 0])
 }
 
 /// Where the first of the marker's numbers stands that isn't as in version 1.0.
@@ -205,6 +215,27 @@ fn is_long_and_open(map: &[u8], part: Part) -> bool {
     part.end - part.position >= 10 && map[part.end - 10..part.end].iter().all(|byte| *byte < 0x80)
 }
 
+/// Where the length stands in a record.
+const LENGTH: usize = RECORD - WORD;
+
+/// Fills a record, and gives all of it but its length.
+fn without_length(part: Part, out: &mut [u8], call: impl FnOnce(Part, &mut [u8]) -> u64) -> u64 {
+    let mut record = [0; RECORD];
+    let returned = call(part, &mut record);
+    out[..LENGTH].copy_from_slice(&record[..LENGTH]);
+    returned
+}
+
+/// Fills a record, but of a refusal all of it but its length.
+fn with_old_length(part: Part, out: &mut [u8], call: impl FnOnce(Part, &mut [u8]) -> u64) -> u64 {
+    let old = out[LENGTH..RECORD].to_vec();
+    let returned = call(part, out);
+    if returned != 0 {
+        out[LENGTH..RECORD].copy_from_slice(&old);
+    }
+    returned
+}
+
 impl Wrong {
     /// A step of the kinds of mistake that answer without looking at the true answer.
     fn instead(&self, map: &[u8], part: Part, kind: u64, out: &mut [u8]) -> Option<u64> {
@@ -223,7 +254,7 @@ impl Wrong {
             (Mistake::EndAtOnce, _) => Some(end(out, last)),
             (Mistake::CutAtOnce, _) => Some(refuse(out, 3, last)),
             (Mistake::RefusesAll, _) => Some(refuse(out, 8, at)),
-            (Mistake::SameSpan, _) => Some(put(out, [2, 0x20, 0, 0, 0, 1, 1, 0])),
+            (Mistake::SameSpan, _) => Some(put(out, [2, 0x20, 0, 0, 0, 1, 1, 0, 0])),
             (Mistake::Untouched, _) => Some(0),
             (Mistake::OrderedPad, Some((0, 1))) => {
                 let mut map = map.to_vec();
@@ -275,13 +306,18 @@ impl Wrong {
             2 if self.is(Mistake::MarkerFirst) && kind == STREAM && part.position == 0 => {
                 refuse(out, 60, words[2] as usize)
             }
+            1 if self.is(Mistake::LengthOfMarker) => {
+                let mut words = words;
+                words[8] = words[6] - words[2];
+                put(out, words)
+            }
             2 | 3 => self.changed_value(map, part, out, words),
             _ => returned,
         }
     }
 
-    fn changed_value(&self, map: &[u8], part: Part, out: &mut [u8], words: [u64; 8]) -> u64 {
-        let [kind, _, start, annotations, descriptor, ..] = words;
+    fn changed_value(&self, map: &[u8], part: Part, out: &mut [u8], words: [u64; WORDS]) -> u64 {
+        let [kind, _, start, annotations, descriptor, _, end, ..] = words;
         let has_annotations = annotations < descriptor;
         let mut new = words;
         match self.mistake {
@@ -291,6 +327,8 @@ impl Wrong {
             }
             Mistake::AnnotationsStart if has_annotations => new[3] = start,
             Mistake::PadInSpan if kind == 2 => new[2] = part.position as u64,
+            Mistake::LengthFromDescriptor => new[8] = end - descriptor,
+            Mistake::LengthOfField if kind == 3 => new[8] = 0,
             Mistake::Annotations254 if descriptor - annotations == 255 => {
                 return refuse(out, 26, start as usize)
             }
@@ -393,7 +431,8 @@ impl Wrong {
                 new[4] = (f64::from_bits(number) as f32).to_bits() as u64
             }
             (Mistake::SignLost, 2) => new[4] = 0,
-            (Mistake::LeadingZeros, 2) if byte & 15 < 14 => new[5] = body,
+            (Mistake::LeadingZeros, 2) if byte & 15 < 14 => (new[5], new[8]) = (body, byte & 15),
+            (Mistake::LengthOfPart, 2) if byte & 15 < 14 => new[8] = byte & 15,
             (Mistake::SwappedSymbol, 6) if byte & 15 < 14 && byte & 15 > 0 => {
                 new[4] = number.swap_bytes() >> (64 - 8 * (byte & 15))
             }
@@ -409,7 +448,10 @@ impl Wrong {
             return returned;
         };
         let (start, size) = (at as u64 + 1, byte & 15);
-        let read = |what, number, start, end| [7, byte, at as u64, what, number, start, end, 0];
+        let read = |what, number, start, end| {
+            let length = end - start;
+            [7, byte, at as u64, what, number, start, end, 0, length]
+        };
         match (self.mistake, returned) {
             (Mistake::NegativeZero, 34) if size < 14 => {
                 put(out, read(2, 1, start + size, start + size))
@@ -433,7 +475,7 @@ impl Wrong {
 
     fn changed_number(&self, map: &[u8], part: Part, form: u64, out: &mut [u8], given: u64) -> u64 {
         let mut words = Record::read(out).0;
-        let [kind, _, start, _, _, _, end, _] = words;
+        let [kind, _, start, _, _, _, end, ..] = words;
         let first = map.get(part.position).copied().unwrap_or(0);
         match (self.mistake, kind) {
             (Mistake::EightBytes, 8) if form < INT && end - start == 9 => {
@@ -452,7 +494,7 @@ impl Wrong {
                     return given;
                 };
                 let (at, next) = (part.position as u64, next as u64);
-                words = [8, 0, at, number as u64, 0, next, next, 0];
+                words = [8, 0, at, number as u64, 0, next, next, 0, 0];
             }
             (Mistake::CutInt, 9) if given == 9 => return refuse(out, 9, part.end),
             _ => return given,
@@ -498,13 +540,19 @@ impl Wrong {
             Mistake::PositionBehind if is_behind => part.at(part.end),
             _ => part,
         };
-        let returned = call(part, out);
         match (self.mistake, out.len()) {
-            (Mistake::TailWritten, 65..) => out[RECORD] = 0,
-            (Mistake::ShortWritten, 1..RECORD) => out[0] = 9,
-            _ => {}
+            (Mistake::LengthWithoutRoom, LENGTH..RECORD) => without_length(part, out, call),
+            (Mistake::LengthOfRefusal, RECORD..) => with_old_length(part, out, call),
+            (Mistake::TailWritten, length) if length > RECORD => {
+                out[RECORD] = 0;
+                call(part, out)
+            }
+            (Mistake::ShortWritten, 1..RECORD) => {
+                out[0] = 9;
+                call(part, out)
+            }
+            _ => call(part, out),
         }
-        returned
     }
 }
 
@@ -536,9 +584,13 @@ impl Reader for Wrong {
             Mistake::OneStep => 1,
             _ => out.len() / RECORD,
         };
+        let apart = match self.mistake {
+            Mistake::LengthOverwritten => LENGTH,
+            _ => RECORD,
+        };
         let (mut written, mut part) = (0, part);
         while written < most {
-            let slot = &mut out[written * RECORD..(written + 1) * RECORD];
+            let slot = &mut out[written * apart..written * apart + RECORD];
             returned = self.step(map, part, kind, slot);
             let record = Record::read(slot);
             written += 1;
@@ -574,7 +626,7 @@ impl Reader for Wrong {
             let mut words = Record::read(out).0;
             let at = words[2] as usize;
             let byte = map.get(at).copied().unwrap_or(0);
-            let opened = |start, end| [6, 1, at as u64, 0, 0, start, end, 0];
+            let opened = |start, end| [6, 1, at as u64, 0, 0, start, end, 0, end - start];
             let body = at as u64 + 1;
             match (self.mistake, returned) {
                 (Mistake::NullEntered, 52) if byte == 0xBF => put(out, opened(body, body)),
@@ -585,8 +637,12 @@ impl Reader for Wrong {
                     words[1] = 2;
                     put(out, words)
                 }
+                (Mistake::LengthOfOpened, 0) => {
+                    words[8] = 0;
+                    put(out, words)
+                }
                 (Mistake::OrderedBody, 0) if byte == 0xD1 => {
-                    words[5] = body;
+                    (words[5], words[8]) = (body, words[6] - body);
                     put(out, words)
                 }
                 _ => returned,

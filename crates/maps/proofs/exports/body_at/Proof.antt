@@ -5,7 +5,8 @@ use Rattle.numbers.specs.Outcome.{Outcome, andThen}
 use Rattle.numbers.proofs.Outcomes.{then-by}
 use Rattle.framing.specs.Read.{framedRead}
 use Rattle.values.specs.Scalars.{Opened}
-use Rattle.records.specs.Words.{enteredAt, enter, bodyWords}
+use Rattle.records.specs.FirstWords.{enteredAt, enter}
+use Rattle.records.specs.Words.{bodyWords}
 use Rattle.maps.specs.Exported.{exportedBody}
 use borrow.Author.Needs.{needs}
 use Rattle.maps.proofs.exports.body_at.Statement.{statement}

@@ -5,7 +5,8 @@ use mathlib.Core.Path.{_∙_, sym, ap}
 use Rattle.numbers.specs.Outcome.{Outcome, andThen}
 use Rattle.numbers.specs.Read.{varUIntRead, varIntRead, intRead}
 use Rattle.numbers.proofs.Outcomes.{then-by}
-use Rattle.records.specs.Words.{Number, ofUnsigned, ofSigned, ofFixed, numberWords}
+use Rattle.records.specs.FirstWords.{Number, ofUnsigned, ofSigned, ofFixed}
+use Rattle.records.specs.Words.{numberWords}
 use Rattle.maps.specs.Exported.{numberBy}
 use borrow.Author.Needs.{needs}
 use Rattle.maps.proofs.exports.number_by.Statement.{statement}

@@ -2,7 +2,8 @@
 -- Assumes nothing.
 use borrow.Author.Tests.{lt-ltb, le-ltb}
 use borrow.Author.Needs.{needs}
-use Prim.Native.Nat.{_≤_}
+use Prim.Native.Nat.{_≤_, _<_}
+use native.Mathlib.Omega.{arith}
 use mathlib.Core.Path.{_≡_, _∙_}
 use lib.ListN.{length}
 use Rattle.records.specs.Buffer.{recordWords, recordSize, recordIn, returnedBy}
@@ -12,7 +13,10 @@ use Rattle.records.proofs.buffer.put_record.Tie as tie
 
 returns : tie.Need-returns
 unfolding recordIn returnedBy
-returns c = (rw (lt-ltb _ _ (c .if1 .taken)), (rw (lt-ltb _ _ (c .if1 .taken))))
+returns c =
+    let m : length (c .before .before .args .out .now) < recordSize = omega (arith, c .if1 .taken) in
+    let t = lt-ltb (length (c .before .before .args .out .now)) recordSize m in
+    (rw t, (rw t))
 
 put-words-requires : tie.Need-put-words-requires
 put-words-requires c κs = search needs
@@ -30,7 +34,7 @@ returns-2 c =
     let b = q .before .before .before in
     let a = b .before .before .args in
     let n : length (a .t2) ≡ recordWords = search needs in
-    let m : recordSize ≤ length (a .out .now) = b .if1 .left in
+    let m : recordSize ≤ length (a .out .now) = omega (arith, b .if1 .left) in
     (rw (le-ltb (length (a .out .now)) recordSize m) (c .number-in .ensures), q .put-words .ensures ∙ record-is (a .t2) (a .out .now) n m)
 
 pub put-record-spec : {M : Type 1} → statement M
