@@ -19,7 +19,7 @@ static const uint8_t map[] = {
     0x52, 0xC1, 0x63,             /* 16: the decimal 9.9: exponent -1, coefficient 99 */
     0x48, 0x3F, 0xF8, 0, 0, 0, 0, 0, 0 /* 19: the float 1.5 */
 };
-enum { LENGTH = sizeof map }; /* 28 */
+enum { LENGTH = sizeof map, LIMIT = ION_MAP_DEFAULT_ANNOTATIONS, DEPTH = ION_MAP_DEFAULT_DEPTH }; /* LENGTH is 28 */
 
 typedef uint64_t words[ION_MAP_RECORD_WORDS];
 
@@ -61,9 +61,9 @@ static void check_step(void)
     static const words other = {ION_MAP_KIND_REFUSED, ION_MAP_REFUSAL_NOT_VERSION_1_0, 1, 0, 0, 0, 0, 0, 0};
     uint64_t byte;
 
-    check("marker", ion_map_step(map, LENGTH, 0, LENGTH, 0, ION_MAP_PART_STREAM, record, sizeof record), 0);
+    check("marker", ion_map_step(map, LENGTH, 0, LENGTH, 0, ION_MAP_PART_STREAM, LIMIT, record, sizeof record), 0);
     check_words("marker", record, marker);
-    check("struct", ion_map_step(map, LENGTH, 0, LENGTH, 4, ION_MAP_PART_STREAM, record, sizeof record), 0);
+    check("struct", ion_map_step(map, LENGTH, 0, LENGTH, 4, ION_MAP_PART_STREAM, LIMIT, record, sizeof record), 0);
     byte = ion_map_word(record, ION_MAP_VALUE_BYTE);
     check("the struct's body's length", ion_map_word(record, ION_MAP_WORD_LENGTH), 5);
     check_words("struct", record, value);
@@ -71,18 +71,18 @@ static void check_step(void)
     check("the struct is null", ion_map_is_null(byte) != 0, 0);
     check("the struct is a container", ion_map_is_container(byte) != 0, 1);
     check("the struct's body", ion_map_body_kind(byte), ION_MAP_PART_STRUCT);
-    check("field", ion_map_step(map, LENGTH, 8, 13, 8, ION_MAP_PART_STRUCT, record, sizeof record), 0);
+    check("field", ion_map_step(map, LENGTH, 8, 13, 8, ION_MAP_PART_STRUCT, LIMIT, record, sizeof record), 0);
     check_words("field", record, field);
-    check("end", ion_map_step(map, LENGTH, 0, LENGTH, LENGTH, ION_MAP_PART_STREAM, record, sizeof record), 0);
+    check("end", ion_map_step(map, LENGTH, 0, LENGTH, LENGTH, ION_MAP_PART_STREAM, LIMIT, record, sizeof record), 0);
     check_words("end", record, end);
-    check("cut", ion_map_step(map, 15, 0, 15, 13, ION_MAP_PART_STREAM, record, sizeof record), 8);
+    check("cut", ion_map_step(map, 15, 0, 15, 13, ION_MAP_PART_STREAM, LIMIT, record, sizeof record), 8);
     check_words("cut", record, cut);
-    check("other version", ion_map_step(later, sizeof later, 0, sizeof later, 0, 0, record, sizeof record), 60);
+    check("other version", ion_map_step(later, sizeof later, 0, sizeof later, 0, 0, LIMIT, record, sizeof record), 60);
     check_words("other version", record, other);
-    check("position outside", ion_map_step(map, LENGTH, 0, LENGTH, SIZE_MAX, 0, record, sizeof record), 50);
-    check("short record", ion_map_step(map, LENGTH, 0, LENGTH, 0, 0, record, sizeof record - 1), 51);
+    check("position outside", ion_map_step(map, LENGTH, 0, LENGTH, SIZE_MAX, 0, LIMIT, record, sizeof record), 50);
+    check("short record", ion_map_step(map, LENGTH, 0, LENGTH, 0, 0, LIMIT, record, sizeof record - 1), 51);
     check("no room for the length",
-          ion_map_step(map, LENGTH, 0, LENGTH, 0, 0, record, sizeof record - ION_MAP_WORD_SIZE), 51);
+          ion_map_step(map, LENGTH, 0, LENGTH, 0, 0, LIMIT, record, sizeof record - ION_MAP_WORD_SIZE), 51);
 }
 
 static void check_annotation_and_step_in(void)
@@ -95,9 +95,9 @@ static void check_annotation_and_step_in(void)
     check_words("annotation", record, annotation);
     check("annotations' end", ion_map_annotation(map, LENGTH, 6, 7, 7, record, sizeof record), 0);
     check_words("annotations' end", record, end);
-    check("stepping in", ion_map_step_in(map, LENGTH, 0, LENGTH, 4, record, sizeof record), 0);
+    check("stepping in", ion_map_step_in(map, LENGTH, 0, LENGTH, 4, LIMIT, record, sizeof record), 0);
     check_words("stepping in", record, body);
-    check("stepping into a string", ion_map_step_in(map, LENGTH, 0, LENGTH, 13, record, sizeof record), 52);
+    check("stepping into a string", ion_map_step_in(map, LENGTH, 0, LENGTH, 13, LIMIT, record, sizeof record), 52);
 }
 
 static void check_scalar(void)
@@ -107,17 +107,17 @@ static void check_scalar(void)
     uint64_t bits;
     double real;
 
-    check("int", ion_map_scalar(map, LENGTH, 8, 13, 11, record, sizeof record), 0);
+    check("int", ion_map_scalar(map, LENGTH, 8, 13, 11, LIMIT, record, sizeof record), 0);
     check_words("int", record, number);
-    check("string", ion_map_scalar(map, LENGTH, 0, LENGTH, 13, record, sizeof record), 0);
+    check("string", ion_map_scalar(map, LENGTH, 0, LENGTH, 13, LIMIT, record, sizeof record), 0);
     check("text's length", ion_map_word(record, ION_MAP_WORD_LENGTH), 2);
     check("text", memcmp(map + ion_map_word(record, ION_MAP_SCALAR_START), "hi", 2) != 0, 0);
     check_words("string", record, string);
-    check("float", ion_map_scalar(map, LENGTH, 0, LENGTH, 19, record, sizeof record), 0);
+    check("float", ion_map_scalar(map, LENGTH, 0, LENGTH, 19, LIMIT, record, sizeof record), 0);
     bits = ion_map_word(record, ION_MAP_SCALAR_NUMBER);
     memcpy(&real, &bits, sizeof real);
     check("float is 1.5", real == 1.5, 1);
-    check("a pad is no scalar", ion_map_scalar(map, LENGTH, 8, 13, 9, record, sizeof record), 22);
+    check("a pad is no scalar", ion_map_scalar(map, LENGTH, 8, 13, 9, LIMIT, record, sizeof record), 22);
 }
 
 static void check_number(void)
@@ -142,15 +142,54 @@ static void check_many(void)
     uint8_t records[8 * ION_MAP_RECORD_SIZE];
     uint64_t count = 0;
 
-    check("steps", ion_map_steps(map, LENGTH, 0, LENGTH, 0, 0, records, sizeof records, &count), 0);
+    check("steps", ion_map_steps(map, LENGTH, 0, LENGTH, 0, 0, LIMIT, records, sizeof records, &count), 0);
     check("the steps' count", count, 6); /* the marker, four values, the end */
     check_words("the second step", records + ION_MAP_RECORD_SIZE, value);
     check_words("the last step", records + 5 * ION_MAP_RECORD_SIZE, end);
     check("steps without room",
-          ion_map_steps(map, LENGTH, 0, LENGTH, 0, 0, records, ION_MAP_RECORD_SIZE - 1, &count), 51);
+          ion_map_steps(map, LENGTH, 0, LENGTH, 0, 0, LIMIT, records, ION_MAP_RECORD_SIZE - 1, &count), 51);
     check("their count", count, 0);
-    check("walked", ion_map_walked(map, LENGTH, UINT64_MAX), 6); /* the marker, four values, the field */
-    check("walked two", ion_map_walked(map, LENGTH, 2), 2);
+    check("walked", ion_map_walked(map, LENGTH, UINT64_MAX, LIMIT, DEPTH), 6); /* the marker, four values, the field */
+    check("walked two", ion_map_walked(map, LENGTH, 2, LIMIT, DEPTH), 2);
+}
+
+static void check_limits(void)
+{
+    static const words value = {ION_MAP_KIND_VALUE, 0x20, 0, 5, 261, 262, 262, 0, 0};
+    static const words refused = {ION_MAP_KIND_REFUSED, ION_MAP_REFUSAL_LIMIT_OUT_OF_RANGE, 0, 0, 0, 0, 0, 0, 0};
+    static const uint8_t lists[] = {0xB2, 0xB1, 0xB0}; /* a list in a list in a list */
+    static const size_t wrong_limits[] = {0, ION_MAP_LEAST_ANNOTATIONS - 1, ION_MAP_MOST_ANNOTATIONS + 1, SIZE_MAX};
+    static const size_t wrong_depths[] = {ION_MAP_LEAST_DEPTH - 1, ION_MAP_MOST_DEPTH + 1, SIZE_MAX};
+    uint8_t wrapped[262] = {0xEE, 0x02, 0x83, 0x02, 0x80}; /* 256 bytes of annotations, and the int 0 */
+    size_t i;
+    uint64_t count = 0;
+
+    memset(wrapped + 5, 0x84, 256);
+    wrapped[261] = 0x20;
+    check("256 bytes", ion_map_step(wrapped, 262, 0, 262, 0, 0, LIMIT, record, sizeof record), 26);
+    check("within 256", ion_map_step(wrapped, 262, 0, 262, 0, 0, 256, record, sizeof record), 0);
+    check_words("within 256", record, value);
+    check("read", ion_map_scalar(wrapped, 262, 0, 262, 0, ION_MAP_MOST_ANNOTATIONS, record, sizeof record), 0);
+    check("walked to it", ion_map_walked(wrapped, 262, 9, LIMIT, DEPTH), 0);
+    check("walked past it", ion_map_walked(wrapped, 262, 9, 256, DEPTH), 1);
+    for (i = 0; i < sizeof wrong_limits / sizeof *wrong_limits; i++) {
+        size_t limit = wrong_limits[i];
+
+        check("wrong limit", ion_map_step(map, LENGTH, 9, 0, 0, 7, limit, record, sizeof record), 68);
+        check_words("wrong limit", record, refused);
+        check("wrong limit, stepping in", ion_map_step_in(map, LENGTH, 0, LENGTH, 4, limit, record, sizeof record), 68);
+        check("wrong limit, scalar", ion_map_scalar(map, LENGTH, 0, LENGTH, 13, limit, record, sizeof record), 68);
+        check("wrong limit, steps", ion_map_steps(map, LENGTH, 0, LENGTH, 0, 0, limit, record, sizeof record, &count), 68);
+        check("wrong limit, count", count, 1);
+        check("wrong limit, walk", ion_map_walked(map, LENGTH, 9, limit, DEPTH), 0);
+        check("short record", ion_map_step(map, LENGTH, 0, LENGTH, 0, 0, limit, record, sizeof record - 1), 51);
+    }
+    check("depth 1", ion_map_walked(lists, sizeof lists, 9, LIMIT, ION_MAP_LEAST_DEPTH), 2);
+    check("depth 2", ion_map_walked(lists, sizeof lists, 9, LIMIT, 2), 3);
+    check("depth 64", ion_map_walked(lists, sizeof lists, 9, LIMIT, ION_MAP_MOST_DEPTH), 3);
+    for (i = 0; i < sizeof wrong_depths / sizeof *wrong_depths; i++) {
+        check("wrong depth", ion_map_walked(lists, sizeof lists, 9, LIMIT, wrong_depths[i]), 0);
+    }
 }
 
 int main(void)
@@ -160,6 +199,7 @@ int main(void)
     check_scalar();
     check_number();
     check_many();
+    check_limits();
     printf("%d checks, %d differ\n", checks, differing);
     return differing != 0;
 }

@@ -14,7 +14,7 @@
 
 enum {
     MOST_INPUT = 65536,
-    MOST_DEPTH = 32 /* the stream is depth 0; a container at this depth is printed and not entered */
+    MOST_DEPTH = ION_MAP_DEFAULT_DEPTH /* the stream is depth 0; a container at this depth is printed and not entered */
 };
 
 /* A part of the map that is being stepped through. */
@@ -83,7 +83,7 @@ static void walk(size_t length)
     for (;;) {
         const struct part *part = &parts[depth];
         uint64_t refused = ion_map_step(map, length, part->start, part->end, position, part->kind,
-                                        record, sizeof record);
+                                        ION_MAP_DEFAULT_ANNOTATIONS, record, sizeof record);
 
         if (refused != 0) {
             print_refused(refused, ion_map_word(record, ION_MAP_REFUSED_POSITION));

@@ -36,6 +36,18 @@ enum {
     ION_MAP_PART_STRUCT = 2    /* the body of a struct: every item has a field ID */
 };
 
+/* Limits that a title sets, the same for all calls on its maps: how many bytes a value's annotations may have, the
+   argument `annotations`, and at which depth a container is too deep for a walk, the argument `depth`. The stream
+   is depth 0. Of each the usual one, and the least and the most that may be given. */
+enum {
+    ION_MAP_DEFAULT_ANNOTATIONS = 255,
+    ION_MAP_LEAST_ANNOTATIONS = 255,
+    ION_MAP_MOST_ANNOTATIONS = 65535,
+    ION_MAP_DEFAULT_DEPTH = 32,
+    ION_MAP_LEAST_DEPTH = 1,
+    ION_MAP_MOST_DEPTH = 64
+};
+
 /* Word 0 of every record is which kind of record it is. Word 8 is a length: of a value's or a field's body, of a
    body that was stepped into, of a scalar's part; in records of other kinds it is 0. */
 enum {
@@ -110,7 +122,7 @@ enum {
     ION_MAP_REFUSAL_NO_VALUE_LEFT = 1,         /* nothing after annotations - there */
     ION_MAP_REFUSAL_MARKER_CUT = 2,            /* a marker under 4 bytes - its start */
     ION_MAP_REFUSAL_VAR_UINT_CUT = 3,          /* a VarUInt, such as a length or an ID, without a last byte - the end of the part */
-    ION_MAP_REFUSAL_ANNOTATIONS_CUT = 5,       /* annotations of up to 255 bytes that run past the part - after their length */
+    ION_MAP_REFUSAL_ANNOTATIONS_CUT = 5,       /* annotations within the limit that run past the part - after their length */
     ION_MAP_REFUSAL_PAD_CUT = 6,               /* a pad that runs past the part - after its length */
     ION_MAP_REFUSAL_FIELD_CUT = 7,             /* a field ID with nothing after it - there */
     ION_MAP_REFUSAL_VALUE_CUT = 8,             /* a value that runs past the part - its descriptor */
@@ -122,20 +134,21 @@ enum {
     ION_MAP_REFUSAL_NO_ANNOTATIONS = 23,       /* an annotations' length of 0 - the wrapper */
     ION_MAP_REFUSAL_ANNOTATIONS_TOO_LONG = 24, /* annotations longer than their wrapper - the wrapper */
     ION_MAP_REFUSAL_NO_ROOM_FOR_VALUE = 25,    /* a wrapper with no room for a value - the wrapper */
-    ION_MAP_REFUSAL_TOO_MANY_ANNOTATIONS = 26, /* annotations of over 255 bytes, also if they run past the part - the wrapper */
+    ION_MAP_REFUSAL_TOO_MANY_ANNOTATIONS = 26, /* annotations over the limit, also if they run past the part - the wrapper */
     ION_MAP_REFUSAL_WRAPPER_IN_WRAPPER = 27,   /* a wrapper in a wrapper - the inner one */
     ION_MAP_REFUSAL_PAD_IN_WRAPPER = 28,       /* a pad in a wrapper - the pad */
     ION_MAP_REFUSAL_WRAPPED_LENGTH_DIFFERS = 29, /* a value that doesn't end where its wrapper does - the wrapper */
     ION_MAP_REFUSAL_BAD_FLOAT_LENGTH = 30,     /* a float's length code other than 0, 4, 8, 15 - its descriptor */
     ION_MAP_REFUSAL_TIMESTAMP_TOO_SHORT = 31,  /* a timestamp under 2 bytes, not null - its descriptor */
     ION_MAP_REFUSAL_EMPTY_ORDERED_STRUCT = 32, /* an ordered struct without a body - its descriptor */
-    ION_MAP_REFUSAL_TOO_DEEP = 37,             /* a walk's: a container at depth 32 - its descriptor */
+    ION_MAP_REFUSAL_TOO_DEEP = 37,             /* a walk's: a container at the limit of depth - its descriptor */
     ION_MAP_REFUSAL_NOT_VERSION_1_0 = 60,      /* a marker that ends in EA and whose two numbers aren't 1 and 0 - its start */
 
     /* The caller's own. */
     ION_MAP_REFUSAL_OUTSIDE = 50,              /* not start <= position <= end <= map_len, or a kind or form above 2 - 0 */
     ION_MAP_REFUSAL_RECORD_TOO_SHORT = 51,     /* out_len under ION_MAP_RECORD_SIZE; nothing is written - 0 */
-    ION_MAP_REFUSAL_INPUT_TOO_LONG = 54        /* a walk's: more bytes than it takes - the most that it takes */
+    ION_MAP_REFUSAL_INPUT_TOO_LONG = 54,       /* a walk's: more bytes than it takes - the most that it takes */
+    ION_MAP_REFUSAL_LIMIT_OUT_OF_RANGE = 68    /* a limit that isn't from its least to its most, after 51, before 50 - 0 */
 };
 
 /* Word i of a record, i being under ION_MAP_RECORD_WORDS. */
@@ -188,6 +201,7 @@ extern "C" {
      start, end    the part: 0 and map_len for the stream, words BODY and END of a container for its body
      position      where to go on: `start` at first, then word END of the record before
      kind          what the part is, ION_MAP_PART_...
+     annotations   the most bytes of a value's annotations, ION_MAP_DEFAULT_ANNOTATIONS where the title sets no other
      out, out_len  the record, at least ION_MAP_RECORD_SIZE bytes
 
    Returns 0, or the number of the refusal that the record holds. With 51 there is no record. Record kinds
@@ -198,7 +212,7 @@ extern "C" {
    A container is handed out whole, and what is in it is read only by steps through its body. Of a value's
    body and of annotations nothing is read here, so a value that is handed out may still be a bad one. */
 uint64_t ion_map_step(const uint8_t *map, size_t map_len, size_t start, size_t end, size_t position,
-                      uint64_t kind, uint8_t *out, size_t out_len);
+                      uint64_t kind, size_t annotations, uint8_t *out, size_t out_len);
 
 #ifdef __cplusplus
 }
@@ -301,22 +315,22 @@ uint64_t ion_map_annotation(const uint8_t *map, size_t map_len, size_t start, si
    refusals of the step, 1 also where `position` is the part's end and 22 also at a pad and at E0. Record kinds: BODY,
    REFUSED. */
 uint64_t ion_map_step_in(const uint8_t *map, size_t map_len, size_t start, size_t end, size_t position,
-                         uint8_t *out, size_t out_len);
+                         size_t annotations, uint8_t *out, size_t out_len);
 
 /* Reads the scalar at `position`; the arguments are those of ion_map_step_in. Record kinds: SCALAR, REFUSED. */
 uint64_t ion_map_scalar(const uint8_t *map, size_t map_len, size_t start, size_t end, size_t position,
-                        uint8_t *out, size_t out_len);
+                        size_t annotations, uint8_t *out, size_t out_len);
 
 /* As many steps as there is room for: the records of ion_map_step one after the other, ION_MAP_RECORD_SIZE bytes
    each, the last being an end or a refusal where one is met. *count is how many there are, 0 with 51. Where the
    last one is neither, go on from its word END. Returns 0, or the number of the refusal in the last record. */
 uint64_t ion_map_steps(const uint8_t *map, size_t map_len, size_t start, size_t end, size_t position,
-                       uint64_t kind, uint8_t *out, size_t out_len, uint64_t *count);
+                       uint64_t kind, size_t annotations, uint8_t *out, size_t out_len, uint64_t *count);
 
 /* How many markers and values a walk of the whole map meets, those in containers included, up to its end or
-   its first refusal and at most `most`. A container at depth 32 is counted and not entered: the walk ends
-   there. Fewer than `most` doesn't say which of these it was. */
-uint64_t ion_map_walked(const uint8_t *map, size_t map_len, uint64_t most);
+   its first refusal and at most `most`. A container at depth `depth` is counted and not entered: the walk ends
+   there. Fewer than `most` doesn't say which of these it was. With a limit out of range it is 0. */
+uint64_t ion_map_walked(const uint8_t *map, size_t map_len, uint64_t most, size_t annotations, size_t depth);
 
 /* Reads the number at `position` of the part start..end. `form` is ION_MAP_FORM_..., and 50 is returned for
    any other; an Int has `length` bytes, and the other forms take no notice of `length`. Record kinds: NUMBER,

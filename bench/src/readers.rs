@@ -1,6 +1,7 @@
 //! The readers that are measured. Each goes through a whole map, into every container that isn't null,
 //! and says how many items it met and the sum of the positions where they end.
 
+use oracle::asking::Limits;
 use oracle::lazy::any_encoding::IonEncoding;
 use oracle::lazy::binary::raw::r#struct::RawBinaryStructIterator_1_0;
 use oracle::lazy::binary::raw::reader::LazyRawBinaryReader_1_0;
@@ -23,6 +24,7 @@ mod linked {
             end: usize,
             position: usize,
             kind: u64,
+            annotations: usize,
             out: *mut u8,
             room: usize,
         ) -> u64;
@@ -33,11 +35,18 @@ mod linked {
             end: usize,
             position: usize,
             kind: u64,
+            annotations: usize,
             out: *mut u8,
             room: usize,
             count: *mut u64,
         ) -> u64;
-        pub fn ion_map_walked(map: *const u8, length: usize, most: u64) -> u64;
+        pub fn ion_map_walked(
+            map: *const u8,
+            length: usize,
+            most: u64,
+            annotations: usize,
+            depth: usize,
+        ) -> u64;
         // The C loops: skip.c.
         pub fn skip_count(map: *const u8, length: usize, ends: *mut u64) -> u64;
         pub fn skip_records(
@@ -178,6 +187,7 @@ fn single_steps(map: &[u8], room: &mut Room) -> Met {
                 part.end,
                 part.at,
                 part.kind,
+                Limits::USUAL.annotations,
                 record.as_mut_ptr().cast(),
                 size_of_val(&record),
             )
@@ -221,6 +231,7 @@ fn steps(map: &[u8], batch: usize, room: &mut Room) -> Met {
                 part.end,
                 part.at,
                 part.kind,
+                Limits::USUAL.annotations,
                 records.as_mut_ptr().cast(),
                 size_of_val(records),
                 &mut count,
@@ -251,7 +262,9 @@ fn steps(map: &[u8], batch: usize, room: &mut Room) -> Met {
 }
 
 fn walk(map: &[u8]) -> Met {
-    let items = unsafe { linked::ion_map_walked(map.as_ptr(), map.len(), u64::MAX) };
+    let Limits { annotations, depth } = Limits::USUAL;
+    let items =
+        unsafe { linked::ion_map_walked(map.as_ptr(), map.len(), u64::MAX, annotations, depth) };
     Met { items, ends: None }
 }
 

@@ -5,7 +5,8 @@
     ./derive_records.py check                                                     compares the files with what would be written
     ./derive_records.py questions | oracle/answer | ./derive_records.py compare   asks ion-rust what it has an entry for
 
-What a value, a pad or a wrapper is and where it is refused comes from ../mapspans_cases/derive.py, which follows the scope paper and the change requests after
+Behind the buffer's length a question may have the limits of the change request A.9: the most annotation bytes, and of `walked` also the depth. Without them they
+are 255 and 32. What a value, a pad or a wrapper is and where it is refused comes from ../mapspans_cases/derive.py, which follows the scope paper and the change requests after
 it. The records follow the paper's "Record", "Scalars" and "VarUInt, VarInt, Int" and the change request A.6, the kinds 5 to 8 the tables of include/ion_map.h.
 Nothing is shared with the reader that is compared.
 """
@@ -32,16 +33,19 @@ NULL, BOOL, INT, FLOAT, DECIMAL, TIMESTAMP, SYMBOL, STRING, CLOB, BLOB, CONTAINE
 
 # Refusals that each function can answer with; data/ is to have each of them.
 FRAMING = {1, 3, 5, 8, 20, *range(22, 33)}
-STEPPING = FRAMING | {2, 6, 7, 21, 50, 51, 60}
+STEPPING = FRAMING | {2, 6, 7, 21, 50, 51, 60, 68}
 REFUSALS = {
     "step": STEPPING,
     "steps": STEPPING,
     "annotation": {3, 20, 50, 51},
-    "step_in": FRAMING | {50, 51, 52},
-    "scalar": FRAMING | {33, 34, 35, 36, 50, 51},
+    "step_in": FRAMING | {50, 51, 52, 68},
+    "scalar": FRAMING | {33, 34, 35, 36, 50, 51, 68},
     "number": {3, 4, 9, 20, 50, 51},
     "walked": set(),
 }
+
+# How many numbers a question has before its limits.
+NUMBERS = {"step": 5, "steps": 5, "annotation": 4, "step_in": 4, "scalar": 4, "number": 6, "walked": 1}
 
 # ===== The records' words =====
 
@@ -72,14 +76,15 @@ def item_record(data, item, kind):
     return record(*words, length=item.end - item.body)
 
 
-def step(data, start, end, position, kind):
+def step(data, start, end, position, kind, limits):
+    steps.limits_fit(limits)
     refuse_if(kind > FIELDS, 50, 0)
     inside(data, start, end, position)
-    item = STEPS[kind](data, position, end)
+    item = STEPS[kind](data, position, end, limits)
     return item_record(data, item, kind) if item else record(END, 0, end)
 
 
-def annotation(data, start, end, position):
+def annotation(data, start, end, position, limits):
     inside(data, start, end, position)
     if position == end:
         return record(END, 0, end)
@@ -87,14 +92,15 @@ def annotation(data, start, end, position):
     return record(ANNOTATION, 0, position, number, 0, 0, after)
 
 
-def value_at(data, start, end, position):
+def value_at(data, start, end, position, limits):
+    steps.limits_fit(limits)
     inside(data, start, end, position)
     refuse_if(position == end, 1, position)
-    return steps.value(data, position, end)
+    return steps.value(data, position, end, limits)
 
 
-def step_in(data, start, end, position):
-    item = value_at(data, start, end, position)
+def step_in(data, start, end, position, limits):
+    item = value_at(data, start, end, position, limits)
     refuse_if(not steps.is_open(item.byte), 52, item.descriptor)
     part = 2 if item.byte // 16 == steps.STRUCT else 1
     return record(BODY, part, item.descriptor, 0, 0, item.body, item.end, length=item.end - item.body)
@@ -141,8 +147,8 @@ def reading(data, item):
     return (parts[name], 0, body, end) if name in parts else (CONTAINER, 0, 0, 0)
 
 
-def scalar(data, start, end, position):
-    item = value_at(data, start, end, position)
+def scalar(data, start, end, position, limits):
+    item = value_at(data, start, end, position, limits)
     what, number, first, past = reading(data, item)
     return record(SCALAR, item.byte, item.descriptor, what, number, first, past, length=past - first)
 
@@ -157,7 +163,7 @@ def var_int(data, at, end):
     return int(number >= top), number % top, after
 
 
-def number(data, start, end, position, form, length):
+def number(data, start, end, position, form, length, limits):
     refuse_if(form > 2, 50, 0)
     inside(data, start, end, position)
     if form == 0:
@@ -171,8 +177,8 @@ def number(data, start, end, position, form, length):
     return record(NUMBER, first // 128, position, first % 128, 0, position + min(length, 1), position + length)
 
 
-def walked(data, most):
-    return min(most, len(steps.walk(data, 0, len(data))) - 1)
+def walked(data, most, limits):
+    return min(most, len(steps.walk(data, 0, len(data), limits)) - 1)
 
 
 # ===== What a call returns and leaves =====
@@ -188,22 +194,22 @@ def called(function, data, *arguments):
         return record(REFUSED, refused.number, refused.position)
 
 
-def run(data, start, end, position, kind, most):
+def run(data, start, end, position, kind, limits, most):
     """The records of many steps, up to an end or a refusal."""
     records = []
     while len(records) < most:
-        records.append(called(step, data, start, end, position, kind))
+        records.append(called(step, data, start, end, position, kind, limits))
         if records[-1][0] in (END, REFUSED):
             break
         position = records[-1][6]
     return records
 
 
-def records_of(name, data, *arguments):
+def records_of(name, data, limits, *arguments):
     *rest, size = arguments
     if size < RECORD_SIZE:
         return []
-    return run(data, *rest, size // RECORD_SIZE) if name == "steps" else [called(SINGLE[name], data, *rest)]
+    return run(data, *rest, limits, size // RECORD_SIZE) if name == "steps" else [called(SINGLE[name], data, *rest, limits)]
 
 
 def returned(records):
@@ -227,15 +233,18 @@ def shown(records, size):
 
 
 def parsed(question):
-    name, data, *numbers = question.split(" ")
-    return name, b"" if data == "-" else bytes.fromhex(data), [int(n) for n in numbers]
+    """The function, the map, the limits and the other arguments."""
+    name, data, *words = question.split(" ")
+    numbers = [int(n) for n in words]
+    limits = steps.SCOPE._replace(**dict(zip(steps.Limits._fields, numbers[NUMBERS[name] :])))
+    return name, b"" if data == "-" else bytes.fromhex(data), limits, numbers[: NUMBERS[name]]
 
 
 def answer(question):
-    name, data, numbers = parsed(question)
+    name, data, limits, numbers = parsed(question)
     if name == "walked":
-        return str(walked(data, *numbers))
-    records = records_of(name, data, *numbers)
+        return str(walked(data, *numbers, limits))
+    records = records_of(name, data, limits, *numbers)
     count = [str(len(records))] if name == "steps" else []
     return " ".join([str(returned(records)), *count, *shown(records, numbers[-1])])
 
@@ -296,12 +305,14 @@ def told_number(data, form, words):
 
 
 def asked(question):
-    """The oracle's question and what it is to answer; nothing where 50 or 51 is answered, which ion-rust hasn't got."""
-    name, data, numbers = parsed(question)
+    """The oracle's question and what it is to answer; nothing where 50 or 51 is answered, or with other limits, which ion-rust hasn't got."""
+    name, data, limits, numbers = parsed(question)
+    if limits != steps.SCOPE:
+        return None
     text = question.split(" ")[1]
     if name == "walked":
         return f"walk {text} 0 {len(data)}", steps.told(steps.walk(data, 0, len(data)))
-    records = records_of(name, data, *numbers)
+    records = records_of(name, data, limits, *numbers)
     if returned(records) in (50, 51):
         return None
     start, end, position, *more = numbers

@@ -15,9 +15,11 @@ from collections import namedtuple
 from pathlib import Path
 
 MOST_INPUT = 65536
-MOST_DEPTH = 32
 MOST_NUMBER_BYTES = 9
-MOST_ANNOTATION_BYTES = 255
+
+# The change request A.9: the most bytes of a wrapper's annotations, and the depth at which a container is too deep. `mapspans` keeps the scope paper's.
+Limits = namedtuple("Limits", "annotations depth")
+SCOPE = Limits(255, 32)
 
 # Type codes, by the names that the walk prints; both signs of an int have one name.
 NAMES = "null bool int int float decimal timestamp symbol string clob blob list sexp struct".split()
@@ -92,7 +94,13 @@ def plain_value(data, at, end):
     return Item(data[at], at, at, body, body + length)
 
 
-def annotated_value(data, at, end):
+def limits_fit(limits):
+    """The change request A.9: 68 before 50."""
+    refuse_if(not 255 <= limits.annotations <= 65535, 68, 0)
+    refuse_if(not 1 <= limits.depth <= 64, 68, 0)
+
+
+def annotated_value(data, at, end, limits):
     """The wrapper at `at` with the value in it. The annotations themselves aren't read."""
     combined, field = coded_length(data, at + 1, end, data[at] % 16)
     length, annotations = var_uint(data, field, end)
@@ -101,7 +109,7 @@ def annotated_value(data, at, end):
     refuse_if(room < 0, 24, at)
     refuse_if(room == 0, 25, at)
     # The change request A.10: 26 before 5, which is first in the scope paper.
-    refuse_if(length > MOST_ANNOTATION_BYTES, 26, at)
+    refuse_if(length > limits.annotations, 26, at)
     refuse_if(length > end - annotations, 5, annotations)
     inner = annotations + length
     refuse_if(inner == end, 1, inner)
@@ -112,8 +120,8 @@ def annotated_value(data, at, end):
     return value._replace(start=at)
 
 
-def value(data, at, end):
-    return (annotated_value if is_wrapper(data[at]) else plain_value)(data, at, end)
+def value(data, at, end, limits=SCOPE):
+    return annotated_value(data, at, end, limits) if is_wrapper(data[at]) else plain_value(data, at, end)
 
 
 def pad_end(data, at, end):
@@ -136,26 +144,26 @@ def after_pads(data, at, end):
     return at
 
 
-def step_stream(data, at, end):
+def step_stream(data, at, end, limits=SCOPE):
     """The next item of the stream at or after `at`; None at its end."""
     at = after_pads(data, at, end)
     if at == end:
         return None
-    return (marker if data[at] == MARKER else value)(data, at, end)
+    return marker(data, at, end) if data[at] == MARKER else value(data, at, end, limits)
 
 
-def step_sequence(data, at, end):
+def step_sequence(data, at, end, limits=SCOPE):
     at = after_pads(data, at, end)
-    return None if at == end else value(data, at, end)
+    return None if at == end else value(data, at, end, limits)
 
 
-def step_struct(data, at, end):
+def step_struct(data, at, end, limits=SCOPE):
     """A field ID stands before each value and each pad."""
     while at < end:
         _, after = var_uint(data, at, end)
         refuse_if(after == end, 7, after)
         if not is_pad(data[after]):
-            return value(data, after, end)._replace(start=at)
+            return value(data, after, end, limits)._replace(start=at)
         at = pad_end(data, after, end)
     return None
 
@@ -173,20 +181,21 @@ def line(depth, item):
     return f"{depth} {name} {item.start} {item.descriptor} {item.body} {item.end}"
 
 
-def part_lines(data, at, end, step, depth):
+def part_lines(data, at, end, step, depth, limits):
     """A line for each item of the part, a container's before those of what is in it."""
-    while item := step(data, at, end):
+    while item := step(data, at, end, limits):
         yield line(depth, item)
         if is_open(item.byte):
-            refuse_if(depth == MOST_DEPTH, 37, item.descriptor)
-            yield from part_lines(data, item.body, item.end, STEP_IN[item.byte // 16], depth + 1)
+            refuse_if(depth == limits.depth, 37, item.descriptor)
+            yield from part_lines(data, item.body, item.end, STEP_IN[item.byte // 16], depth + 1, limits)
         at = item.end
 
 
-def walk(data, at, end):
+def walk(data, at, end, limits=SCOPE):
     lines = []
     try:
-        for text in part_lines(data, at, end, step_stream, 0):
+        limits_fit(limits)
+        for text in part_lines(data, at, end, step_stream, 0, limits):
             lines.append(text)
         lines.append(f"end {end}")
     except Refused as refused:
@@ -420,7 +429,7 @@ def nested_in_turn(depth, inner):
 
 
 def depths():
-    level = MOST_DEPTH
+    level = SCOPE.depth
     return {
         "deep": nested(level, SEVEN) + ZERO,
         "deep-twice": join(VERSION, nested_in_turn(level, NAME), ZERO, nested_in_turn(level, h("71 0A")), VERSION),

@@ -20,8 +20,23 @@ use crate::refusals;
 use crate::requests::Request;
 use crate::{Int, IonError, IonType};
 
-/// The deepest level of the walk: a container there is handed out and not entered.
-pub const DEPTH_LIMIT: usize = 32;
+/// What a title's maps may have, by the change request A.9.
+#[derive(Clone, Copy, Debug, PartialEq)]
+pub struct Limits {
+    /// The most bytes of a value's annotations.
+    pub annotations: usize,
+    /// The deepest level of the walk: a container there is handed out and not entered.
+    pub depth: usize,
+}
+
+impl Limits {
+    /// The Rust's own limit of annotations, whose number it keeps in a byte, and the scope paper's of
+    /// depth, of which the Rust has none.
+    pub const USUAL: Limits = Limits {
+        annotations: 255,
+        depth: 32,
+    };
+}
 
 /// The stand-in integer answers for at most this many bytes.
 pub const INT_LIMIT: usize = 15;
@@ -170,11 +185,12 @@ pub enum Line {
 
 // ===== Parts =====
 
-/// The bytes, the part of them that is asked about, and the Rust's context.
+/// The bytes, the part of them that is asked about, the limits and the Rust's context.
 pub struct Asked<'a> {
     bytes: &'a [u8],
     at: usize,
     end: usize,
+    limits: Limits,
     context: EncodingContextRef<'a>,
 }
 
@@ -193,8 +209,18 @@ impl<'a> Asked<'a> {
             bytes,
             at,
             end,
+            limits: Limits::USUAL,
             context: EncodingContextRef::new(context),
         })
+    }
+
+    /// The same by other limits.
+    pub fn by(self, limits: Limits) -> Self {
+        Asked { limits, ..self }
+    }
+
+    pub fn limits(&self) -> Limits {
+        self.limits
     }
 
     pub fn at(&self) -> usize {
@@ -539,7 +565,7 @@ pub fn walk(asked: &Asked<'_>, line: &mut impl FnMut(Line)) {
                 })
             }
             Ok(RawStreamItem::Value(value)) => {
-                if walk_value(value, start_of(value), 0, line).is_err() {
+                if walk_value(value, start_of(value), Level::of_stream(asked), line).is_err() {
                     return;
                 }
             }
@@ -549,15 +575,38 @@ pub fn walk(asked: &Asked<'_>, line: &mut impl FnMut(Line)) {
     }
 }
 
+/// How deep the walk is, and how deep it goes.
+#[derive(Clone, Copy)]
+struct Level {
+    depth: usize,
+    most: usize,
+}
+
+impl Level {
+    fn of_stream(asked: &Asked<'_>) -> Self {
+        Level {
+            depth: 0,
+            most: asked.limits.depth,
+        }
+    }
+
+    fn below(self) -> Self {
+        Level {
+            depth: self.depth + 1,
+            ..self
+        }
+    }
+}
+
 fn walk_value(
     value: &LazyRawBinaryValue_1_0<'_>,
     start: usize,
-    depth: usize,
+    level: Level,
     line: &mut impl FnMut(Line),
 ) -> Walked {
     let spans = spans_of(value, start);
     line(Line::Value {
-        depth,
+        depth: level.depth,
         ion_type: value.ion_type(),
         start,
         descriptor: spans.descriptor,
@@ -567,13 +616,13 @@ fn walk_value(
     if !is_open(value) {
         return Ok(());
     }
-    if depth == DEPTH_LIMIT {
+    if level.depth == level.most {
         return refuse(line, Refusal::own(37, Some(spans.descriptor)));
     }
     match value.read() {
-        Ok(RawValueRef::List(list)) => walk_values(list.iter(), depth + 1, line),
-        Ok(RawValueRef::SExp(sexp)) => walk_values(sexp.iter(), depth + 1, line),
-        Ok(RawValueRef::Struct(fields)) => walk_fields(fields.iter(), depth + 1, line),
+        Ok(RawValueRef::List(list)) => walk_values(list.iter(), level.below(), line),
+        Ok(RawValueRef::SExp(sexp)) => walk_values(sexp.iter(), level.below(), line),
+        Ok(RawValueRef::Struct(fields)) => walk_fields(fields.iter(), level.below(), line),
         Ok(_) => unreachable!("the value is a container"),
         Err(error) => refuse(line, error.into()),
     }
@@ -586,12 +635,12 @@ fn refuse(line: &mut impl FnMut(Line), refusal: Refusal) -> Walked {
 
 fn walk_values(
     values: RawBinarySequenceIterator_1_0<'_>,
-    depth: usize,
+    level: Level,
     line: &mut impl FnMut(Line),
 ) -> Walked {
     for value in values {
         match value {
-            Ok(value) => walk_value(value, start_of(value), depth, line)?,
+            Ok(value) => walk_value(value, start_of(value), level, line)?,
             Err(error) => return refuse(line, error.into()),
         }
     }
@@ -600,12 +649,12 @@ fn walk_values(
 
 fn walk_fields(
     fields: RawBinaryStructIterator_1_0<'_>,
-    depth: usize,
+    level: Level,
     line: &mut impl FnMut(Line),
 ) -> Walked {
     for field in fields {
         match field {
-            Ok(field) => walk_value(field.value(), field.range().start, depth, line)?,
+            Ok(field) => walk_value(field.value(), field.range().start, level, line)?,
             Err(error) => return refuse(line, error.into()),
         }
     }

@@ -1,28 +1,37 @@
 //! What the change requests move away from the Rust: the answers that are wanted where it gives
 //! others, and by which request. What such an answer is about, the Rust's own readings say.
 
-use crate::asking::{self, Asked, Item, Line, Refusal, Rules};
+use crate::asking::{self, Asked, Item, Limits, Line, Refusal, Rules};
 
 /// A request that moves answers of the Rust.
 #[derive(Clone, Copy, Debug, PartialEq)]
 pub enum Request {
     LimitBeforeCut,
     OneVersion,
+    HigherLimit,
 }
 
 /// What each request moves, in the order of `Request`.
-pub const REQUESTS: [&str; 2] = [
+pub const REQUESTS: [&str; 3] = [
     "annotations over the limit and cut short: 26 here, 5 in the Rust (A.10)",
     "a marker that isn't 1.0: 60 here, passed in the Rust (A.2)",
+    "over 255 bytes of annotations: by a higher limit here, 26 in the Rust (A.9)",
 ];
 
 // ===== The answers wanted =====
 
+/// Of annotations that the Rust refuses and a higher limit admits there is no answer wanted: the
+/// refusal stands for whatever a reader with that limit says.
 pub fn refusal(asked: &Asked<'_>, rust: Refusal) -> Refusal {
     match (rust.number, rust.position) {
         (5, Some(cut)) => match over_limit(asked, cut) {
             Some(wrapper) => Refusal::moved(Request::LimitBeforeCut, 26, wrapper),
             None => rust,
+        },
+        (26, _) if asked.limits().annotations > Limits::USUAL.annotations => Refusal {
+            own: true,
+            moved: Some(Request::HigherLimit),
+            ..rust
         },
         _ => rust,
     }
@@ -98,16 +107,13 @@ fn other_version(start: usize, major: u8, minor: u8) -> Option<Refusal> {
 
 // ===== A.10: 26 before 5 =====
 
-/// The most bytes of annotations.
-const LIMIT: u128 = 255;
-
 /// The wrapper whose annotations, by the Rust, are cut short at `cut`, if they are over the limit.
 /// The Rust tells neither, but `cut` is where the annotations' length ends.
 fn over_limit(asked: &Asked<'_>, cut: usize) -> Option<usize> {
     let length = number_before(asked, cut);
     let number = asking::var_uint(asked.within(length, cut)).expect("the Rust read it");
     assert_eq!(number.next, cut);
-    if number.magnitude <= LIMIT {
+    if number.magnitude <= asked.limits().annotations as u128 {
         return None;
     }
     // No descriptor has a length with room for so many (24), so a combined length stands between.

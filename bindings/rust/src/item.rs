@@ -231,7 +231,7 @@ impl Item {
     /// use ion_map::{raw, Item};
     ///
     /// let mut record = [0; raw::RECORD_SIZE];
-    /// raw::step(&[], 0, 0, 0, 0, &mut record);
+    /// raw::step(&[], 0, 0, 0, 0, 255, &mut record);
     /// assert_eq!(Item::from_record(&record), Ok(Item::End { position: 0 }));
     /// ```
     #[inline]

@@ -5,6 +5,7 @@
 mod annotations;
 mod answer;
 mod item;
+mod limits;
 mod number;
 mod part;
 pub mod raw;
@@ -15,9 +16,10 @@ mod walk;
 
 pub use annotations::{annotation, annotations, Annotation, Annotations};
 pub use item::{Item, Marker, Type, Value};
+pub use limits::Limits;
 pub use number::{int, var_int, var_uint, Int, VarInt, VarUInt};
 pub use part::{Part, PartKind};
 pub use refusal::Refusal;
 pub use scalar::{scalar, Scalar};
 pub use steps::{items, step, step_in, Body, Items};
-pub use walk::{walk, walked, Walk, MOST_DEPTH};
+pub use walk::{walk, walked, Walk};

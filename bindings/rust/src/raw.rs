@@ -2,7 +2,8 @@
 //!
 //! A record has [`RECORD_WORDS`] words of 64 bits, least significant byte first, which [`words`] takes apart. The C
 //! header says which word is which. A function returns 0 or a refusal's number; where a buffer is shorter than a record
-//! it returns 51 and writes nothing. All that the header asks of pointers holds of any slices, so all of these are safe.
+//! it returns 51 and writes nothing. All that the header asks of pointers holds of any slices, so all of these are
+//! safe.
 //!
 //! The rest of the crate is made of these functions, and no other module has unsafe code.
 
@@ -29,6 +30,7 @@ extern "C" {
         end: usize,
         position: usize,
         kind: u64,
+        annotations: usize,
         out: *mut u8,
         out_len: usize,
     ) -> u64;
@@ -47,6 +49,7 @@ extern "C" {
         start: usize,
         end: usize,
         position: usize,
+        annotations: usize,
         out: *mut u8,
         out_len: usize,
     ) -> u64;
@@ -56,6 +59,7 @@ extern "C" {
         start: usize,
         end: usize,
         position: usize,
+        annotations: usize,
         out: *mut u8,
         out_len: usize,
     ) -> u64;
@@ -77,11 +81,12 @@ extern "C" {
         end: usize,
         position: usize,
         kind: u64,
+        annotations: usize,
         out: *mut u8,
         out_len: usize,
         count: *mut u64,
     ) -> u64;
-    fn ion_map_walked(map: *const u8, map_len: usize, most: u64) -> u64;
+    fn ion_map_walked(map: *const u8, map_len: usize, most: u64, annotations: usize, depth: usize) -> u64;
 }
 
 /// The words of a record.
@@ -101,16 +106,26 @@ pub fn words(record: &Record) -> [u64; RECORD_WORDS] {
     words
 }
 
-/// One step through the part `start..end`, which is a stream, a sequence or a struct (0, 1, 2).
+/// One step through the part `start..end`, which is a stream, a sequence or a struct (0, 1, 2); `annotations` is the
+/// most bytes of a value's annotations.
 ///
 /// ```
 /// let mut record = [0; ion_map::raw::RECORD_SIZE];
-/// assert_eq!(ion_map::raw::step(&[0x21, 0x07], 0, 2, 0, 0, &mut record), 0);
+/// assert_eq!(ion_map::raw::step(&[0x21, 0x07], 0, 2, 0, 0, 255, &mut record), 0);
 /// assert_eq!(ion_map::raw::words(&record), [2, 0x21, 0, 0, 0, 1, 2, 0, 1]);
-/// assert_eq!(ion_map::raw::step(&[0x21, 0x07], 0, 2, 0, 3, &mut record), 50);
-/// assert_eq!(ion_map::raw::step(&[0x21, 0x07], 0, 2, 0, 0, &mut record[1..]), 51);
+/// assert_eq!(ion_map::raw::step(&[0x21, 0x07], 0, 2, 0, 3, 255, &mut record), 50);
+/// assert_eq!(ion_map::raw::step(&[0x21, 0x07], 0, 2, 0, 3, 254, &mut record), 68);
+/// assert_eq!(ion_map::raw::step(&[0x21, 0x07], 0, 2, 0, 0, 255, &mut record[1..]), 51);
 /// ```
-pub fn step(map: &[u8], start: usize, end: usize, position: usize, kind: u64, out: &mut [u8]) -> u64 {
+pub fn step(
+    map: &[u8],
+    start: usize,
+    end: usize,
+    position: usize,
+    kind: u64,
+    annotations: usize,
+    out: &mut [u8],
+) -> u64 {
     // SAFETY: a slice's pointer is never null and has as many bytes as the slice, and `out`, being borrowed for
     // writing, overlaps nothing. The function reads within the first, writes within the second and keeps neither.
     unsafe {
@@ -121,6 +136,7 @@ pub fn step(map: &[u8], start: usize, end: usize, position: usize, kind: u64, ou
             end,
             position,
             kind,
+            annotations,
             out.as_mut_ptr(),
             out.len(),
         )
@@ -153,10 +169,10 @@ pub fn annotation(map: &[u8], start: usize, end: usize, position: usize, out: &m
 ///
 /// ```
 /// let mut record = [0; ion_map::raw::RECORD_SIZE];
-/// assert_eq!(ion_map::raw::step_in(&[0xB1, 0x20], 0, 2, 0, &mut record), 0);
+/// assert_eq!(ion_map::raw::step_in(&[0xB1, 0x20], 0, 2, 0, 255, &mut record), 0);
 /// assert_eq!(ion_map::raw::words(&record), [6, 1, 0, 0, 0, 1, 2, 0, 1]);
 /// ```
-pub fn step_in(map: &[u8], start: usize, end: usize, position: usize, out: &mut [u8]) -> u64 {
+pub fn step_in(map: &[u8], start: usize, end: usize, position: usize, annotations: usize, out: &mut [u8]) -> u64 {
     // SAFETY: as in `step`.
     unsafe {
         ion_map_step_in(
@@ -165,6 +181,7 @@ pub fn step_in(map: &[u8], start: usize, end: usize, position: usize, out: &mut 
             start,
             end,
             position,
+            annotations,
             out.as_mut_ptr(),
             out.len(),
         )
@@ -175,10 +192,10 @@ pub fn step_in(map: &[u8], start: usize, end: usize, position: usize, out: &mut 
 ///
 /// ```
 /// let mut record = [0; ion_map::raw::RECORD_SIZE];
-/// assert_eq!(ion_map::raw::scalar(&[0x71, 0x0A], 0, 2, 0, &mut record), 0);
+/// assert_eq!(ion_map::raw::scalar(&[0x71, 0x0A], 0, 2, 0, 255, &mut record), 0);
 /// assert_eq!(ion_map::raw::words(&record), [7, 0x71, 0, 6, 10, 0, 0, 0, 0]);
 /// ```
-pub fn scalar(map: &[u8], start: usize, end: usize, position: usize, out: &mut [u8]) -> u64 {
+pub fn scalar(map: &[u8], start: usize, end: usize, position: usize, annotations: usize, out: &mut [u8]) -> u64 {
     // SAFETY: as in `step`.
     unsafe {
         ion_map_scalar(
@@ -187,6 +204,7 @@ pub fn scalar(map: &[u8], start: usize, end: usize, position: usize, out: &mut [
             start,
             end,
             position,
+            annotations,
             out.as_mut_ptr(),
             out.len(),
         )
@@ -222,12 +240,20 @@ pub fn number(map: &[u8], start: usize, end: usize, position: usize, form: u64, 
 ///
 /// ```
 /// let mut records = [[0; ion_map::raw::RECORD_SIZE]; 4];
-/// let (refused, count) = ion_map::raw::steps(&[0x20, 0x11], 0, 2, 0, 0, records.as_flattened_mut());
+/// let (refused, count) = ion_map::raw::steps(&[0x20, 0x11], 0, 2, 0, 0, 255, records.as_flattened_mut());
 /// assert_eq!((refused, count), (0, 3));
 /// assert_eq!(ion_map::raw::words(&records[1]), [2, 0x11, 1, 1, 1, 2, 2, 0, 0]);
 /// assert_eq!(ion_map::raw::words(&records[2]), [0, 0, 2, 0, 0, 0, 0, 0, 0]);
 /// ```
-pub fn steps(map: &[u8], start: usize, end: usize, position: usize, kind: u64, out: &mut [u8]) -> (u64, u64) {
+pub fn steps(
+    map: &[u8],
+    start: usize,
+    end: usize,
+    position: usize,
+    kind: u64,
+    annotations: usize,
+    out: &mut [u8],
+) -> (u64, u64) {
     let mut count = 0;
     // SAFETY: as in `step`; the count is a variable of this function, which nothing else refers to.
     let refused = unsafe {
@@ -238,6 +264,7 @@ pub fn steps(map: &[u8], start: usize, end: usize, position: usize, kind: u64, o
             end,
             position,
             kind,
+            annotations,
             out.as_mut_ptr(),
             out.len(),
             &mut count,
@@ -246,12 +273,13 @@ pub fn steps(map: &[u8], start: usize, end: usize, position: usize, kind: u64, o
     (refused, count)
 }
 
-/// How many markers and values a walk of the whole map meets, at most `most`.
+/// How many markers and values a walk of the whole map meets, at most `most`, by limits of annotations and of depth.
 ///
 /// ```
-/// assert_eq!(ion_map::raw::walked(&[0xB1, 0x20], 100), 2);
+/// assert_eq!(ion_map::raw::walked(&[0xB1, 0x20], 100, 255, 32), 2);
+/// assert_eq!(ion_map::raw::walked(&[0xB1, 0x20], 100, 255, 65), 0);
 /// ```
-pub fn walked(map: &[u8], most: u64) -> u64 {
+pub fn walked(map: &[u8], most: u64, annotations: usize, depth: usize) -> u64 {
     // SAFETY: a slice's pointer is never null and has as many bytes as the slice; the function only reads them.
-    unsafe { ion_map_walked(map.as_ptr(), map.len(), most) }
+    unsafe { ion_map_walked(map.as_ptr(), map.len(), most, annotations, depth) }
 }

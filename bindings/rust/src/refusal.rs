@@ -46,7 +46,7 @@ refusals! {
     MARKER_CUT = 2, "a marker under 4 bytes";
     VAR_UINT_CUT = 3, "a VarUInt without a last byte";
     VAR_INT_CUT = 4, "a VarInt without a last byte";
-    ANNOTATIONS_CUT = 5, "annotations of up to 255 bytes that run past the part";
+    ANNOTATIONS_CUT = 5, "annotations within the limit that run past the part";
     PAD_CUT = 6, "a pad that runs past the part";
     FIELD_CUT = 7, "a field ID with nothing after it";
     VALUE_CUT = 8, "a value that runs past the part";
@@ -58,7 +58,7 @@ refusals! {
     NO_ANNOTATIONS = 23, "an annotations' length of 0";
     ANNOTATIONS_TOO_LONG = 24, "annotations longer than their wrapper";
     NO_ROOM_FOR_VALUE = 25, "a wrapper with no room for a value";
-    TOO_MANY_ANNOTATIONS = 26, "annotations of over 255 bytes, whole or cut short";
+    TOO_MANY_ANNOTATIONS = 26, "annotations over the limit, whole or cut short";
     WRAPPER_IN_WRAPPER = 27, "a wrapper in a wrapper";
     PAD_IN_WRAPPER = 28, "a pad in a wrapper";
     WRAPPED_LENGTH_DIFFERS = 29, "a value whose length differs from what its wrapper says";
@@ -76,6 +76,7 @@ refusals! {
     RECORD_TOO_SHORT = 51, "a buffer shorter than a record";
     NOT_A_CONTAINER = 52, "stepping into what isn't a container or is null";
     INPUT_TOO_LONG = 54, "more input than is taken";
+    LIMIT_OUT_OF_RANGE = 68, "a limit outside its range";
 
     UNKNOWN_ANSWER = u64::MAX, "an answer that this crate doesn't know: the archive is another one than it was made for";
 }

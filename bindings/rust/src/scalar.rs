@@ -2,6 +2,7 @@
 
 use crate::answer::{bytes, kind, Answer};
 use crate::item::Type;
+use crate::limits::Limits;
 use crate::part::Part;
 use crate::raw;
 use crate::refusal::Refusal;
@@ -86,7 +87,11 @@ pub(crate) fn signed(negative: bool, magnitude: u128) -> Option<i128> {
 /// # Ok::<(), Refusal>(())
 /// ```
 pub fn scalar(map: &[u8], part: Part, position: usize) -> Result<Scalar<'_>, Refusal> {
-    let answer = Answer::of(|out| raw::scalar(map, part.start, part.end, position, out))?;
+    scalar_by(Limits::DEFAULT, map, part, position)
+}
+
+pub(crate) fn scalar_by(limits: Limits, map: &[u8], part: Part, position: usize) -> Result<Scalar<'_>, Refusal> {
+    let answer = Answer::of(|out| raw::scalar(map, part.start, part.end, position, limits.annotations, out))?;
     match answer.kind() {
         kind::SCALAR => from_answer(map, &answer),
         _ => Err(Refusal::unknown_answer()),

@@ -2,6 +2,7 @@
 
 use crate::answer::{kind, Answer};
 use crate::item::Item;
+use crate::limits::Limits;
 use crate::part::{Part, PartKind};
 use crate::raw::{self, Record, RECORD_SIZE};
 use crate::refusal::Refusal;
@@ -25,7 +26,12 @@ const BATCH: usize = 16;
 /// # Ok::<(), ion_map::Refusal>(())
 /// ```
 pub fn step(map: &[u8], part: Part, position: usize) -> Result<Item, Refusal> {
-    let answer = Answer::of(|out| raw::step(map, part.start, part.end, position, part.kind.code(), out))?;
+    step_by(Limits::DEFAULT, map, part, position)
+}
+
+pub(crate) fn step_by(limits: Limits, map: &[u8], part: Part, position: usize) -> Result<Item, Refusal> {
+    let Part { kind, start, end } = part;
+    let answer = Answer::of(|out| raw::step(map, start, end, position, kind.code(), limits.annotations, out))?;
     Item::from_answer(&answer)
 }
 
@@ -43,12 +49,13 @@ pub fn step(map: &[u8], part: Part, position: usize) -> Result<Item, Refusal> {
 /// # Ok::<(), ion_map::Refusal>(())
 /// ```
 pub fn items(map: &[u8], part: Part) -> Items<'_> {
-    Items::new(map, part)
+    Items::new(Limits::DEFAULT, map, part)
 }
 
 /// The iterator that [`items`] gives. It stops at the part's end, or after the first refusal.
 #[derive(Clone)]
 pub struct Items<'a> {
+    limits: Limits,
     map: &'a [u8],
     part: Part,
     position: usize,
@@ -60,8 +67,9 @@ pub struct Items<'a> {
 }
 
 impl<'a> Items<'a> {
-    pub(crate) fn new(map: &'a [u8], part: Part) -> Items<'a> {
+    pub(crate) fn new(limits: Limits, map: &'a [u8], part: Part) -> Items<'a> {
         Items {
+            limits,
             map,
             part,
             position: part.start,
@@ -115,8 +123,9 @@ impl<'a> Items<'a> {
 
     fn fill(&mut self) {
         let Part { kind, start, end } = self.part;
+        let limit = self.limits.annotations;
         let out = self.batch.as_flattened_mut();
-        let (_, count) = raw::steps(self.map, start, end, self.position, kind.code(), out);
+        let (_, count) = raw::steps(self.map, start, end, self.position, kind.code(), limit, out);
         self.taken = 0;
         self.filled = BATCH.min(count as usize);
     }
@@ -186,7 +195,11 @@ pub struct Body {
 /// # Ok::<(), Refusal>(())
 /// ```
 pub fn step_in(map: &[u8], part: Part, position: usize) -> Result<Body, Refusal> {
-    let answer = Answer::of(|out| raw::step_in(map, part.start, part.end, position, out))?;
+    step_in_by(Limits::DEFAULT, map, part, position)
+}
+
+pub(crate) fn step_in_by(limits: Limits, map: &[u8], part: Part, position: usize) -> Result<Body, Refusal> {
+    let answer = Answer::of(|out| raw::step_in(map, part.start, part.end, position, limits.annotations, out))?;
     match (answer.kind(), PartKind::of_code(answer.word::<1>())) {
         (kind::BODY, Some(kind)) => Ok(Body {
             descriptor: answer.at::<2>(),

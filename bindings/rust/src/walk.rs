@@ -1,18 +1,17 @@
 //! The walk of a whole map.
 
 use crate::item::{Item, Value};
+use crate::limits::Limits;
 use crate::part::Part;
 use crate::raw;
 use crate::refusal::Refusal;
 use crate::steps::Items;
 use std::iter::FusedIterator;
 
-/// How deep the walk goes. The stream is depth 0; a container at this depth is handed out and not entered.
-pub const MOST_DEPTH: usize = 32;
-
 /// The markers and values of a whole map, each with its depth, a container before what is in it. Scalars aren't read.
 ///
-/// A container at depth 32 that isn't null is handed out, and refusal 37 follows.
+/// A container at the limit of depth that isn't null is handed out, and refusal 37 follows; the limit is 32 here, and
+/// [`Limits`] has others.
 ///
 /// ```
 /// use ion_map::{walk, Item};
@@ -27,13 +26,7 @@ pub const MOST_DEPTH: usize = 32;
 /// # Ok::<(), ion_map::Refusal>(())
 /// ```
 pub fn walk(map: &[u8]) -> Walk<'_> {
-    Walk {
-        map,
-        levels: vec![Items::new(map, Part::stream(map))],
-        depth: 0,
-        part: Part::stream(map),
-        next: Next::Step,
-    }
+    Walk::new(Limits::DEFAULT, map)
 }
 
 /// How many markers and values [`walk`] hands out before its end or its refusal, at most `most`. No memory is taken
@@ -45,12 +38,17 @@ pub fn walk(map: &[u8]) -> Walk<'_> {
 /// assert_eq!(ion_map::walked(&map, 2), 2);
 /// ```
 pub fn walked(map: &[u8], most: u64) -> u64 {
-    raw::walked(map, most)
+    walked_by(Limits::DEFAULT, map, most)
+}
+
+pub(crate) fn walked_by(limits: Limits, map: &[u8], most: u64) -> u64 {
+    raw::walked(map, most, limits.annotations, limits.depth)
 }
 
 /// The iterator that [`walk`] gives. It stops at the map's end, or after the first refusal.
 #[derive(Clone, Debug)]
 pub struct Walk<'a> {
+    limits: Limits,
     map: &'a [u8],
     /// The parts from the stream down to `depth`. Those below are kept to be used again, since their records take
     /// long to clear beside what most bodies hold.
@@ -64,12 +62,31 @@ pub struct Walk<'a> {
 #[derive(Clone, Copy, Debug)]
 enum Next {
     Step,
-    /// Refuses to enter the container with this descriptor.
-    TooDeep(usize),
+    /// Refuses to enter the container with this descriptor, or a limit.
+    Refuse(Refusal),
     Nothing,
 }
 
-impl Walk<'_> {
+impl<'a> Walk<'a> {
+    /// The steps test the limit of annotations, and the walk that of depth.
+    pub(crate) fn new(limits: Limits, map: &'a [u8]) -> Walk<'a> {
+        let next = match Limits::DEPTH.contains(&limits.depth) {
+            true => Next::Step,
+            false => Next::Refuse(Refusal {
+                number: Refusal::LIMIT_OUT_OF_RANGE,
+                position: 0,
+            }),
+        };
+        Walk {
+            limits,
+            map,
+            levels: vec![Items::new(limits, map, Part::stream(map))],
+            depth: 0,
+            part: Part::stream(map),
+            next,
+        }
+    }
+
     /// The part that handed out the last item, which a reading or stepping in asks for; the stream at first.
     ///
     /// ```
@@ -121,14 +138,17 @@ impl Walk<'_> {
         let Some((value, body)) = value.and_then(|value| Some((value, value.part()?))) else {
             return;
         };
-        if self.depth == MOST_DEPTH {
-            self.next = Next::TooDeep(value.descriptor());
+        if self.depth == self.limits.depth {
+            self.next = Next::Refuse(Refusal {
+                number: Refusal::TOO_DEEP,
+                position: value.descriptor(),
+            });
             return;
         }
         self.depth += 1;
         match self.levels.get_mut(self.depth) {
             Some(level) => level.restart(body),
-            None => self.levels.push(Items::new(self.map, body)),
+            None => self.levels.push(Items::new(self.limits, self.map, body)),
         }
     }
 }
@@ -139,10 +159,7 @@ impl Iterator for Walk<'_> {
     fn next(&mut self) -> Option<Self::Item> {
         let met = match self.next {
             Next::Step => self.step(),
-            Next::TooDeep(position) => Some(Err(Refusal {
-                number: Refusal::TOO_DEEP,
-                position,
-            })),
+            Next::Refuse(refusal) => Some(Err(refusal)),
             Next::Nothing => None,
         };
         if !matches!(met, Some(Ok(_))) {

@@ -4,13 +4,15 @@ mod common;
 
 use common::short;
 use ion_map::{
-    annotation, annotations, int, items, raw, scalar, step, step_in, var_int, var_uint, walk, walked, Part, PartKind,
-    Refusal,
+    annotation, annotations, int, items, raw, scalar, step, step_in, var_int, var_uint, walk, walked, Limits, Part,
+    PartKind, Refusal,
 };
 use raw::RECORD_SIZE;
 use std::ops::Range;
 
 const KINDS: [PartKind; 3] = [PartKind::Stream, PartKind::Sequence, PartKind::Struct];
+
+const LIMIT: usize = Limits::DEFAULT.annotations;
 
 const OUTSIDE: Refusal = Refusal {
     number: Refusal::OUTSIDE,
@@ -87,28 +89,80 @@ fn short_buffers_and_unknown_kinds() {
     for length in 0..RECORD_SIZE {
         let mut out = [0xAA; RECORD_SIZE];
         let out = &mut out[..length];
-        assert_eq!(raw::step(&map, 9, 0, 9, 9, out), 51);
+        assert_eq!(raw::step(&map, 9, 0, 9, 9, 9, out), 51);
         assert_eq!(raw::annotation(&map, 9, 0, 9, out), 51);
-        assert_eq!(raw::step_in(&map, 9, 0, 9, out), 51);
-        assert_eq!(raw::scalar(&map, 9, 0, 9, out), 51);
+        assert_eq!(raw::step_in(&map, 9, 0, 9, 9, out), 51);
+        assert_eq!(raw::scalar(&map, 9, 0, 9, 9, out), 51);
         assert_eq!(raw::number(&map, 9, 0, 9, 9, 9, out), 51);
-        assert_eq!(raw::steps(&map, 9, 0, 9, 9, out), (51, 0));
+        assert_eq!(raw::steps(&map, 9, 0, 9, 9, 9, out), (51, 0));
         assert!(out.iter().all(|byte| *byte == 0xAA));
     }
     let mut out = [0xAA; RECORD_SIZE];
     for kind in [3, u64::MAX] {
-        assert_eq!(raw::step(&map, 0, 2, 0, kind, &mut out), 50);
-        assert_eq!(raw::steps(&map, 0, 2, 0, kind, &mut out), (50, 1));
+        assert_eq!(raw::step(&map, 0, 2, 0, kind, LIMIT, &mut out), 50);
+        assert_eq!(raw::steps(&map, 0, 2, 0, kind, LIMIT, &mut out), (50, 1));
         assert_eq!(raw::number(&map, 0, 2, 0, kind, 0, &mut out), 50);
         assert_eq!(raw::words(&out), [9, 50, 0, 0, 0, 0, 0, 0, 0]);
+    }
+}
+
+/// Limits of any size: 68 at 0 outside the ranges, before 50, and otherwise none.
+#[test]
+fn limits_of_any_size() {
+    let refused = Some(Refusal {
+        number: Refusal::LIMIT_OUT_OF_RANGE,
+        position: 0,
+    });
+    let map = [0xB2, 0x20, 0x20];
+    let numbers = [
+        0,
+        1,
+        2,
+        63,
+        64,
+        65,
+        254,
+        255,
+        256,
+        300,
+        65534,
+        65535,
+        65536,
+        1 << 32,
+        usize::MAX,
+    ];
+    for annotations in numbers {
+        for depth in numbers {
+            let limits = Limits { annotations, depth };
+            let wrong = !Limits::ANNOTATIONS.contains(&annotations);
+            for (end, position) in [(3, 0), (3, 3), (0, usize::MAX)] {
+                let part = Part::new(PartKind::Stream, 0..end);
+                let refusals = [
+                    limits.step(&map, part, position).err(),
+                    limits.step_in(&map, part, position).err(),
+                    limits.scalar(&map, part, position).err(),
+                ];
+                assert!(
+                    refusals.iter().all(|refusal| (*refusal == refused) == wrong),
+                    "{limits:?}"
+                );
+            }
+            assert_eq!(limits.items(&map, Part::stream(&map)).count(), 1);
+
+            let wrong = wrong || !Limits::DEPTH.contains(&depth);
+            let walk: Vec<_> = limits.walk(&map).collect();
+            assert_eq!(walk.len(), if wrong { 1 } else { 3 }, "{limits:?}");
+            assert_eq!(walk[0].clone().err(), refused.filter(|_| wrong), "{limits:?}");
+            assert_eq!(limits.walked(&map, u64::MAX), if wrong { 0 } else { 3 }, "{limits:?}");
+        }
     }
 }
 
 #[test]
 fn longer_buffers_keep_their_further_bytes() {
     let mut out = [0xAA; 2 * RECORD_SIZE - 1];
-    assert_eq!(raw::step(&[0x20], 0, 1, 0, 0, &mut out), 0);
-    assert_eq!(raw::steps(&[0x20], 0, 1, 0, 0, &mut out), (0, 1));
+    assert_eq!(raw::step(&[0x20], 0, 1, 0, 0, LIMIT, &mut out), 0);
+    assert_eq!(raw::steps(&[0x20], 0, 1, 0, 0, LIMIT, &mut out), (0, 1));
     assert!(out[RECORD_SIZE..].iter().all(|byte| *byte == 0xAA));
 }
 
@@ -154,7 +208,7 @@ fn check_walk(map: &[u8]) {
     while let Some(met) = walk.next() {
         let Ok((depth, item)) = met else { break };
         count += 1;
-        assert!(depth <= ion_map::MOST_DEPTH);
+        assert!(depth <= Limits::DEFAULT.depth);
         if let Some(value) = item.value() {
             let body = step_in(map, walk.part(), value.descriptor()).ok();
             assert_eq!(body.map(|body| body.part), value.part());

@@ -1,8 +1,8 @@
 //! A short example of each function, with the maps at the edges.
 
 use ion_map::{
-    annotation, annotations, int, items, raw, scalar, step, step_in, var_int, var_uint, walk, walked, Body, Item, Part,
-    PartKind, Refusal, Scalar, Type,
+    annotation, annotations, int, items, raw, scalar, step, step_in, var_int, var_uint, walk, walked, Body, Item,
+    Limits, Part, PartKind, Refusal, Scalar, Type,
 };
 use std::error::Error;
 
@@ -50,13 +50,14 @@ fn lengths() {
 
     let map = [0x22, 0x00, 0x07, 0xD2, 0x84, 0x12];
     let mut record = [0xAA; raw::RECORD_SIZE];
-    raw::scalar(&map, 0, 6, 0, &mut record);
+    let limit = Limits::DEFAULT.annotations;
+    raw::scalar(&map, 0, 6, 0, limit, &mut record);
     assert_eq!(raw::words(&record), [7, 0x22, 0, 2, 0, 2, 3, 0, 1]);
-    raw::step(&map, 4, 6, 4, 2, &mut record);
+    raw::step(&map, 4, 6, 4, 2, limit, &mut record);
     assert_eq!(raw::words(&record), [3, 0x12, 4, 5, 5, 6, 6, 4, 0]);
-    raw::step_in(&map, 0, 6, 3, &mut record);
+    raw::step_in(&map, 0, 6, 3, limit, &mut record);
     assert_eq!(raw::words(&record), [6, 2, 3, 0, 0, 4, 6, 0, 2]);
-    raw::scalar(&map, 4, 6, 5, &mut record);
+    raw::scalar(&map, 4, 6, 5, limit, &mut record);
     assert_eq!(raw::words(&record), [9, 33, 5, 0, 0, 0, 0, 0, 0]);
 }
 
@@ -313,11 +314,12 @@ fn the_part_of_a_walk() {
     assert!(walk.next().is_none());
 }
 
-/// Lists in lists, each with a VarUInt of one byte for its length.
+/// Lists in lists, each with a VarUInt of two bytes for its length.
 fn nested(lists: usize) -> Vec<u8> {
     let mut map = Vec::new();
     for inner in (0..lists).rev() {
-        map.extend([0xBE, 0x80 | (2 * inner) as u8]);
+        let length = 3 * inner;
+        map.extend([0xBE, (length >> 7) as u8, 0x80 | (length & 0x7F) as u8]);
     }
     map
 }
@@ -332,16 +334,97 @@ fn walks_too_deep() {
     let mut walk = walk(&too_deep);
     for depth in 0..=32 {
         let (at, item) = walk.next().unwrap().unwrap();
-        assert_eq!((at, item.span().start), (depth, 2 * depth));
+        assert_eq!((at, item.span().start), (depth, 3 * depth));
     }
-    assert_eq!(walk.next(), Some(Err(refusal(37, 64))));
+    assert_eq!(walk.next(), Some(Err(refusal(37, 96))));
     assert_eq!(walk.next(), None);
     assert_eq!(walked(&too_deep, u64::MAX), 33);
 }
 
+/// A value with so many bytes of annotations.
+fn annotated(count: usize) -> Vec<u8> {
+    let length = [
+        (count >> 14) as u8,
+        (count >> 7 & 0x7F) as u8,
+        0x80 | (count & 0x7F) as u8,
+    ];
+    let combined = count + length.len() + 1;
+    let mut map = vec![
+        0xEE,
+        (combined >> 14) as u8,
+        (combined >> 7 & 0x7F) as u8,
+        0x80 | (combined & 0x7F) as u8,
+    ];
+    map.extend(length);
+    map.extend(vec![0x84; count]);
+    map.push(0x20);
+    map
+}
+
+/// Annotations up to the limit are taken by every function, and one byte more is refused by it.
+#[test]
+fn limits_of_annotations() {
+    for limit in [255, 256, 300, 65535] {
+        let limits = Limits {
+            annotations: limit,
+            ..Limits::default()
+        };
+        let map = annotated(limit);
+        let stream = Part::stream(&map);
+        let item = limits.step(&map, stream, 0).unwrap();
+        assert_eq!(
+            (item.span(), item.value().unwrap().annotations.len()),
+            (0..map.len(), limit)
+        );
+        assert_eq!(limits.items(&map, stream).collect::<Vec<_>>(), [Ok(item.clone())]);
+        assert_eq!(limits.walk(&map).collect::<Vec<_>>(), [Ok((0, item))]);
+        assert_eq!(limits.walked(&map, u64::MAX), 1);
+        assert_eq!(limits.scalar(&map, stream, 0).unwrap().to_i128(), Some(0));
+        assert_eq!(limits.step_in(&map, stream, 0), Err(refusal(52, map.len() - 1)));
+
+        let map = annotated(limit + 1);
+        let stream = Part::stream(&map);
+        let over = refusal(26, 0);
+        assert_eq!(limits.step(&map, stream, 0), Err(over));
+        assert_eq!(limits.items(&map, stream).collect::<Vec<_>>(), [Err(over)]);
+        assert_eq!(limits.walk(&map).collect::<Vec<_>>(), [Err(over)]);
+        assert_eq!(limits.walked(&map, u64::MAX), 0);
+        assert_eq!(limits.scalar(&map, stream, 0), Err(over));
+        assert_eq!(limits.step_in(&map, stream, 0), Err(over));
+    }
+    assert_eq!(Limits::default(), Limits::DEFAULT);
+    assert_eq!(first(&annotated(255)).map(|item| item.span().end), Ok(263));
+    assert_eq!(first(&annotated(256)), Err(refusal(26, 0)));
+}
+
+/// A container at the limit of depth is handed out and not entered, and the count says the same.
+#[test]
+fn limits_of_depth() {
+    for depth in [1, 2, 31, 32, 33, 63, 64] {
+        let limits = Limits {
+            depth,
+            ..Limits::default()
+        };
+        let fits = nested(depth);
+        assert!(limits.walk(&fits).all(|met| met.is_ok()));
+        assert_eq!(limits.walked(&fits, u64::MAX), depth as u64);
+
+        let too_deep = nested(depth + 1);
+        let mut walk = limits.walk(&too_deep);
+        for at in 0..=depth {
+            assert_eq!(walk.next().unwrap().unwrap().0, at);
+        }
+        assert_eq!(walk.next(), Some(Err(refusal(37, 3 * depth))));
+        assert_eq!(walk.next(), None);
+        assert_eq!(limits.walked(&too_deep, u64::MAX), depth as u64 + 1);
+    }
+}
+
 #[test]
 fn refusals_in_words() {
-    let known = (1..=9).chain(20..=37).chain([50, 51, 52, 54, Refusal::UNKNOWN_ANSWER]);
+    let known = (1..=9)
+        .chain(20..=37)
+        .chain([50, 51, 52, 54, 60, 68, Refusal::UNKNOWN_ANSWER]);
     let unknown = refusal(10, 0).words();
     for number in known {
         assert_ne!(refusal(number, 0).words(), unknown, "{number}");

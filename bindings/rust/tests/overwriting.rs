@@ -7,7 +7,7 @@
 mod common;
 
 use common::short;
-use ion_map::{annotations, items, raw, scalar, step_in, Part, Value};
+use ion_map::{annotations, items, raw, scalar, step_in, Limits, Part, Value};
 use std::ops::Range;
 
 /// What the bytes of a body become.
@@ -68,7 +68,8 @@ fn looked_at(map: &[u8], part: Part, value: &Value) -> String {
 /// The record beside the reading, since two NaNs look alike.
 fn read(map: &[u8], part: Part, value: &Value) -> String {
     let mut record = [0; raw::RECORD_SIZE];
-    raw::scalar(map, part.start, part.end, value.descriptor(), &mut record);
+    let limit = Limits::DEFAULT.annotations;
+    raw::scalar(map, part.start, part.end, value.descriptor(), limit, &mut record);
     let scalar = scalar(map, part, value.descriptor());
     format!("{value:?}: {scalar:?}, {:?}", raw::words(&record))
 }

@@ -6,6 +6,7 @@ use prog.Model.{Model}
 use contract.Lifetimes.{Lfts}
 use contract.Running.{GhostRules}
 use Rattle.numbers.proofs.Meaning.{var-uint-sound, var-uint-complete, var-int-sound, var-int-complete, ints-sound, ints-complete}
+use Rattle.framing.proofs.Ranges.{limit-range}
 use Rattle.framing.proofs.Soundness.{values-sound, pads-sound}
 use Rattle.framing.proofs.Completeness.{values-complete, pads-complete}
 use Rattle.stepping.proofs.Soundness.{steps-sound, steps-repeat, refusals-keep}
@@ -13,6 +14,8 @@ use Rattle.stepping.proofs.Completeness.{steps-complete}
 use Rattle.stepping.proofs.Tiling.{runs}
 use Rattle.values.proofs.Meanings.{scalars-meant}
 use Rattle.values.proofs.Edges.{edges}
+use Rattle.walking.proofs.Depths.{limits-range}
+use Rattle.walking.proofs.Seeking.{visit-depth}
 use Rattle.walking.proofs.Exact.{exact, never-outside}
 use Rattle.runs.proofs.Overwriting.{still-reached}
 use Rattle.runs.proofs.Program.{program-ends, program-tiling, program-overwriting}
@@ -53,6 +56,9 @@ equal =
       stepsComplete = steps-complete;
       scalars = scalars-meant;
       walk = exact;
+      limitRange = limit-range;
+      limitsRange = limits-range;
+      depthBound = visit-depth;
       firstBytes = first-bytes;
       recordsBegin = records-begin;
       edges = edges;

@@ -7,12 +7,13 @@ use prog.Model.{Model}
 use contract.Lifetimes.{Lfts}
 use contract.Running.{GhostRules}
 use Rattle.numbers.specs.Meaning.{VarUIntSound, VarUIntComplete, VarIntSound, VarIntComplete, IntsSound, IntsComplete}
+use Rattle.framing.specs.Limits.{LimitRange}
 use Rattle.framing.specs.Meaning.{ValuesSound, ValuesComplete, PadsSound, PadsComplete}
 use Rattle.stepping.specs.Meaning.{StepsSound, StepsComplete, StepsRepeat, RefusalsKeep}
 use Rattle.stepping.specs.Theorems.{RunsExist}
 use Rattle.values.specs.Meaning.{ScalarsMeant}
 use Rattle.values.specs.Edges.{Edges}
-use Rattle.walking.specs.Theorems.{Exact, NeverOutside}
+use Rattle.walking.specs.Theorems.{Exact, NeverOutside, LimitsRange, DepthBound}
 use Rattle.runs.specs.Theorems.{StillReached}
 use Rattle.runs.specs.Program.{ProgramEnds, ProgramTiling, ProgramOverwriting}
 use Rattle.records.specs.Theorems.{FirstBytes}
@@ -66,6 +67,11 @@ pub record Equal : Type 0 where
   pub scalars : ScalarsMeant
   -- the walk: "Markers and values in order, a non-null container before what is in it"
   pub walk : Exact
+  -- the limits, by the change request A.9: each theorem here is for every limit of annotation bytes and every depth. 68 is answered outside 255 to 65535 and
+  -- 1 to 64, and there alone; and nothing is met deeper than the depth given.
+  pub limitRange : LimitRange
+  pub limitsRange : LimitsRange
+  pub depthBound : DepthBound
   -- the records, by the change request A.6: "The first eight words keep their meaning", in single calls and in many steps
   pub firstBytes : FirstBytes
   pub recordsBegin : RecordsBegin

@@ -14,7 +14,7 @@ use Rattle.numbers.specs.Descriptor.{descriptorOf}
 use Rattle.numbers.specs.declared.type_descriptor.TypeDescriptor.{TypeDescriptor}
 use Rattle.numbers.proofs.Outcomes.{Each, given, each-refuse, each-pick, each-within, each-then, each-of}
 use Rattle.numbers.proofs.Meaning.{Bounded, var-uint-bounded}
-use Rattle.framing.specs.Answers.{peekedDescriptor, Sized, sizedBy, lengthAt, lengthTests, valueLength, fitting, valueWithoutAnnotations, padded, padAt, Wrapping, wrapperTests, annotationsAt, wrapperAt, innerValue, wrapped, unwrapped, annotatedValue, valueAt, badFloat, shortTimestamp, emptyOrdered, noValue, isPad, isWrapper, mostAnnotations, readValue, Frame, padding, valued, frameAt, readFrame}
+use Rattle.framing.specs.Answers.{peekedDescriptor, Sized, sizedBy, lengthAt, lengthTests, valueLength, fitting, valueWithoutAnnotations, padded, padAt, Wrapping, wrapperTests, annotationsAt, wrapperAt, innerValue, wrapped, unwrapped, annotatedValue, valueAt, badFloat, shortTimestamp, emptyOrdered, noValue, isPad, isWrapper, readValue, Frame, padding, valued, frameAt, readFrame}
 use Rattle.framing.specs.Spans.{Spans, Padding}
 
 -- a descriptor is one of the part
@@ -100,28 +100,28 @@ pad-each s at end d h =
     })))
 
 -- a wrapper's value stands in the part, past at least one byte of annotations, and is to have a byte at least
-pub record WrapperAt (at end : ℕ) (w : Wrapping) : Type 0 where
+pub record WrapperAt (limit : ℕ) (at end : ℕ) (w : Wrapping) : Type 0 where
   pub low : at < w .annotations
   pub some : w .annotations < w .value
-  pub few : w .value ≤ w .annotations + mostAnnotations
+  pub few : w .value ≤ w .annotations + limit
   pub high : w .value ≤ end
   pub more : 0 < w .expected
 
-pub wrapper-each : (s : List ℕ) (at end : ℕ) (d : TypeDescriptor) → at < end → Each (WrapperAt at end) (wrapperAt s at end d)
+pub wrapper-each : (limit : ℕ) (s : List ℕ) (at end : ℕ) (d : TypeDescriptor) → at < end → Each (WrapperAt limit at end) (wrapperAt limit s at end d)
 unfolding wrapperAt annotationsAt wrapperTests
-wrapper-each s at end d h =
+wrapper-each limit s at end d h =
     each-then (length-each s (at + 1) end (d .«length_code») (omega arith)) (λ l b.
     each-then (var-uint-bounded s (l .body) end) (λ u n.
     each-refuse (eqb (u .value) 0) 23 at (λ z.
     each-refuse (ltb (l .size) (u .next - l .body + u .value)) 24 at (λ x.
     each-refuse (eqb (l .size) (u .next - l .body + u .value)) 25 at (λ y.
-    each-refuse (ltb mostAnnotations (u .value)) 26 at (λ m.
+    each-refuse (ltb limit (u .value)) 26 at (λ m.
     each-refuse (ltb (end - u .next) (u .value)) 5 (u .next) (λ f.
     given
     (record {
       low = omega (arith, b .low, n .begins);
       some = omega (arith, eqb-false (u .value) 0 z);
-      few = omega (arith, ltb-false mostAnnotations (u .value) m);
+      few = omega (arith, ltb-false limit (u .value) m);
       high = omega (arith, ltb-false (end - u .next) (u .value) f, n .ends);
       more = omega (arith, ltb-false (l .size) (u .next - l .body + u .value) x, eqb-false (l .size) (u .next - l .body + u .value) y);
     }))))))))
@@ -134,10 +134,10 @@ inner-each s at end d h =
 pub inner-peeked-each : (s : List ℕ) (at end : ℕ) → Each (Ordered at end) (andThen (peekedDescriptor s at end) (innerValue s at end))
 inner-peeked-each s at end = each-then (peeked-each s at end) (λ d b. inner-each s at end d (b .before))
 
-pub annotated-each : (s : List ℕ) (at end : ℕ) (d : TypeDescriptor) → at < end → Each (Ordered at end) (annotatedValue s at end d)
+pub annotated-each : (limit : ℕ) (s : List ℕ) (at end : ℕ) (d : TypeDescriptor) → at < end → Each (Ordered at end) (annotatedValue limit s at end d)
 unfolding annotatedValue unwrapped wrapped
-annotated-each s at end d h =
-    each-then (wrapper-each s at end d h) (λ w b.
+annotated-each limit s at end d h =
+    each-then (wrapper-each limit s at end d h) (λ w b.
     each-then (inner-peeked-each s (w .value) end) (λ v o.
     each-refuse (not (eqb (v .end - v .descriptor) (w .expected))) 29 at (λ _.
     given
@@ -151,23 +151,23 @@ annotated-each s at end d h =
       near = o .near;
     }))))
 
-pub value-each : (s : List ℕ) (at end : ℕ) (d : TypeDescriptor) → at < end → Each (Ordered at end) (valueAt s at end d)
+pub value-each : (limit : ℕ) (s : List ℕ) (at end : ℕ) (d : TypeDescriptor) → at < end → Each (Ordered at end) (valueAt limit s at end d)
 unfolding valueAt
-value-each s at end d h =
-    each-pick (isWrapper (d .kind)) (λ _. annotated-each s at end d h) (λ _. plain-each s at end d h)
+value-each limit s at end d h =
+    each-pick (isWrapper (d .kind)) (λ _. annotated-each limit s at end d h) (λ _. plain-each s at end d h)
 
-pub read-value-each : (s : List ℕ) (at end : ℕ) → Each (Ordered at end) (readValue s at end)
+pub read-value-each : (limit : ℕ) (s : List ℕ) (at end : ℕ) → Each (Ordered at end) (readValue limit s at end)
 unfolding readValue
-read-value-each s at end = each-then (peeked-each s at end) (λ d b. value-each s at end d (b .before))
+read-value-each limit s at end = each-then (peeked-each s at end) (λ d b. value-each limit s at end d (b .before))
 
 -- a pad or a value that a step meets
 pub data FrameIn (at end : ℕ) : Frame → Type 0 where
   pad-in : {p : Padding} → PaddedAt at end p → FrameIn at end (padding p)
   value-in : {v : Spans} → Ordered at end v → FrameIn at end (valued v)
 
-pub frame-each : (s : List ℕ) (at end : ℕ) → Each (FrameIn at end) (readFrame s at end)
+pub frame-each : (limit : ℕ) (s : List ℕ) (at end : ℕ) → Each (FrameIn at end) (readFrame limit s at end)
 unfolding readFrame frameAt
-frame-each s at end =
+frame-each limit s at end =
     each-then (peeked-each s at end) (λ d b.
     each-pick (isPad (d .kind)) (λ _. each-then (pad-each s at end d (b .before)) (λ p q. given (pad-in q)))
-    (λ _. each-then (value-each s at end d (b .before)) (λ v o. given (value-in o))))
+    (λ _. each-then (value-each limit s at end d (b .before)) (λ v o. given (value-in o))))

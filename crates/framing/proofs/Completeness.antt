@@ -18,7 +18,7 @@ use Rattle.numbers.specs.Descriptor.{descriptorOf, kindOf}
 use Rattle.numbers.specs.declared.type_descriptor.TypeDescriptor.{TypeDescriptor}
 use Rattle.numbers.proofs.Outcomes.{by-test, by-case, within-part}
 use Rattle.numbers.proofs.Meaning.{var-uint-complete}
-use Rattle.framing.specs.Answers.{peekedDescriptor, Sized, sizedBy, lengthAt, valueCode, badFloat, shortTimestamp, emptyOrdered, lengthTests, valueLength, fitting, valueWithoutAnnotations, padded, padAt, Wrapping, wrapperTests, annotationsAt, wrapperAt, innerValue, wrapped, unwrapped, annotatedValue, valueAt, readValue, padOrNone, readPad, frameAt, readFrame, padding, valued, asPadding, asValued, isPad, isWrapper, noValue, mostAnnotations}
+use Rattle.framing.specs.Answers.{peekedDescriptor, Sized, sizedBy, lengthAt, valueCode, badFloat, shortTimestamp, emptyOrdered, lengthTests, valueLength, fitting, valueWithoutAnnotations, padded, padAt, Wrapping, wrapperTests, annotationsAt, wrapperAt, innerValue, wrapped, unwrapped, annotatedValue, valueAt, readValue, padOrNone, readPad, frameAt, readFrame, padding, valued, asPadding, asValued, isPad, isWrapper, noValue}
 use Rattle.framing.specs.Spans.{Spans, Padding}
 use Rattle.framing.specs.Format.{typeAt, codeAt, CodeLength, short, long, ValueLength, none, null, coded, ordered, Legal, TypedValue, NopPadding, AnnotationWrapper, ValueBytes, plain, annotated}
 use Rattle.framing.specs.Meaning.{Within, ValuesComplete, PadsComplete}
@@ -93,9 +93,9 @@ plain-complete s at end v t l =
 wrapping-are : (a b c b' c' : ℕ) → b ≡ b' → c ≡ c' → _≡_ {A = Wrapping} (record { annotations = a; value = b; expected = c }) (record { annotations = a; value = b'; expected = c' })
 wrapping-are a b c b' c' p q = rw (p, q)
 
-wrapper-complete : (s : List ℕ) (at end : ℕ) (v : Spans) (w : AnnotationWrapper s at end v) → Within (annotated w) → wrapperAt s at end (here s at) ≡ gives (record { annotations = v .annotations; value = v .descriptor; expected = v .end - v .descriptor })
+wrapper-complete : (limit : ℕ) (s : List ℕ) (at end : ℕ) (v : Spans) (w : AnnotationWrapper s at end v) → Within limit (annotated w) → wrapperAt limit s at end (here s at) ≡ gives (record { annotations = v .annotations; value = v .descriptor; expected = v .end - v .descriptor })
 unfolding wrapperAt annotationsAt wrapperTests descriptorOf
-wrapper-complete s at end v w l =
+wrapper-complete limit s at end v w l =
     let n : ℕ = varUIntOf (part s (w .after) (v .annotations)) in
     let d : v .descriptor ≡ v .annotations + n = w .size in
     let some : v .annotations < v .descriptor = w .some in
@@ -104,7 +104,7 @@ wrapper-complete s at end v w l =
     let fits : v .end ≤ end = omega (arith, w .value .fits, w .ends) in
     let all : w .combined ≡ v .end - w .after = w .all in
     rw
-    (code-complete s (at + 1) end (w .after) (codeAt s at) (w .combined) (w .field) (l .0), var-uint-complete s (w .after) end (v .annotations) (w .count) (l .1), ne-eqb n 0 (omega arith), le-ltb (w .combined) (v .annotations - w .after + n) (omega arith), ne-eqb (w .combined) (v .annotations - w .after + n) (omega arith), le-ltb mostAnnotations n (omega (arith, l .2)), le-ltb (end - v .annotations) n (omega arith))
+    (code-complete s (at + 1) end (w .after) (codeAt s at) (w .combined) (w .field) (l .0), var-uint-complete s (w .after) end (v .annotations) (w .count) (l .1), ne-eqb n 0 (omega arith), le-ltb (w .combined) (v .annotations - w .after + n) (omega arith), ne-eqb (w .combined) (v .annotations - w .after + n) (omega arith), le-ltb limit n (omega (arith, l .2)), le-ltb (end - v .annotations) n (omega arith))
     (ap gives (wrapping-are (v .annotations) _ _ _ _ (sym d) (omega arith)))
 
 inner-complete : (s : List ℕ) (at end : ℕ) (v : Spans) → TypedValue s at end v → v .body ≤ at + 1 + mostBytes → andThen (peekedDescriptor s at end) (innerValue s at end) ≡ gives v
@@ -113,13 +113,13 @@ inner-complete s at end v t l =
     let k : IsValue (kindOf (typeAt s at) (codeAt s at)) = is-value (t .type) in
     rw (peeked-here s at end (omega (arith, t .low, t .order, t .fits)) (t .within), k .wrapper, k .pad) (plain-complete s at end v t l)
 
-annotated-complete : (s : List ℕ) (at end : ℕ) (v : Spans) (w : AnnotationWrapper s at end v) → Within (annotated w) → annotatedValue s at end (here s at) ≡ gives v
+annotated-complete : (limit : ℕ) (s : List ℕ) (at end : ℕ) (v : Spans) (w : AnnotationWrapper s at end v) → Within limit (annotated w) → annotatedValue limit s at end (here s at) ≡ gives v
 unfolding annotatedValue unwrapped wrapped
-annotated-complete s at end v w l =
+annotated-complete limit s at end v w l =
     let i : Spans = w .inner in
     let e : i .end - i .descriptor ≡ v .end - v .descriptor = omega (arith, w .ends, w .value .descriptor) in
     rw
-    (wrapper-complete s at end v w l, inner-complete s (v .descriptor) end i (w .value) (omega (arith, l .3, w .body)), eq-eqb _ _ e)
+    (wrapper-complete limit s at end v w l, inner-complete s (v .descriptor) end i (w .value) (omega (arith, l .3, w .body)), eq-eqb _ _ e)
     (ap gives (spans-are v _ _ _ _ _ _ (w .byte) (w .start) refl (sym (w .value .descriptor)) (w .body) (w .ends)))
 
 -- a wrapper's code is not 0: it tells a length, and a value follows
@@ -127,26 +127,26 @@ some-code : {s : List ℕ} {at end b code n : ℕ} → CodeLength s at end b cod
 some-code (short h e) m = m
 some-code (long f) m = omega arith
 
-value-complete : (s : List ℕ) (at end : ℕ) (v : Spans) (b : ValueBytes s at end v) → Within b → (valueAt s at end (here s at) ≡ gives v) × (isPad (here s at .kind) ≡ false) × (at < end) × (end ≤ length s)
+value-complete : (limit : ℕ) (s : List ℕ) (at end : ℕ) (v : Spans) (b : ValueBytes s at end v) → Within limit b → (valueAt limit s at end (here s at) ≡ gives v) × (isPad (here s at .kind) ≡ false) × (at < end) × (end ≤ length s)
 unfolding valueAt descriptorOf
-value-complete s at end v (plain t) l =
+value-complete limit s at end v (plain t) l =
     let k : IsValue (kindOf (typeAt s at) (codeAt s at)) = is-value (t .type) in
     (rw (k .wrapper) (plain-complete s at end v t l), k .pad, omega (arith, t .low, t .order, t .fits), t .within)
-value-complete s at end v (annotated w) l =
+value-complete limit s at end v (annotated w) l =
     let c : 0 < codeAt s at = some-code (w .field) (omega (arith, w .all, w .count .begins, w .some, w .value .low, w .value .order, w .ends)) in
     let k : IsWrapper (kindOf (typeAt s at) (codeAt s at)) = is-wrapper (typeAt s at) (codeAt s at) (w .type) c in
-    (rw (k .wrapper) (annotated-complete s at end v w l), k .pad, omega (arith, w .low, w .count .begins, w .count .ends), w .value .within)
+    (rw (k .wrapper) (annotated-complete limit s at end v w l), k .pad, omega (arith, w .low, w .count .begins, w .count .ends), w .value .within)
 
 pub values-complete : ValuesComplete
 unfolding readValue readFrame frameAt
-values-complete s at end v b l =
-    let r = value-complete s at end v b l in
+values-complete limit s at end v b l =
+    let r = value-complete limit s at end v b l in
     let e : peekedDescriptor s at end ≡ gives (here s at) = peeked-here s at end (r .2) (r .3) in
     (rw e (r .0), rw (e, r .1, r .0))
 
 pub pads-complete : PadsComplete
 unfolding readPad padOrNone readFrame frameAt padAt padded descriptorOf
-pads-complete s at end p n l =
+pads-complete limit s at end p n l =
     let size : ℕ = p .end - p .body in
     let e : peekedDescriptor s at end ≡ gives (here s at) = peeked-here s at end (omega (arith, n .low, n .order, n .fits)) (n .within) in
     let k : isPad (kindOf (typeAt s at) (codeAt s at)) ≡ true = is-pad (typeAt s at) (codeAt s at) (n .type) (below (n .field)) in

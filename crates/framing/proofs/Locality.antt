@@ -28,7 +28,7 @@ use Rattle.framing.proofs.Soundness.{values-sound, pads-sound}
 use Rattle.framing.proofs.Completeness.{values-complete, pads-complete}
 
 -- The same bytes in the whole part give the same answer, whatever it is.
-module _ (s t : List ℕ) (e : length s ≡ length t) where
+module _ (limit : ℕ) (s t : List ℕ) (e : length s ≡ length t) where
   abbrev From : ℕ → ℕ → Type 0
   From at end = Same s t at end
 
@@ -63,12 +63,12 @@ module _ (s t : List ℕ) (e : length s ≡ length t) where
   pad-local at end d same =
       rw (length-local (at + 1) end (d .«length_code») (later at (at + 1) end (omega arith) same))
 
-  wrapper-local : (at end : ℕ) (d : TypeDescriptor) → at < end → From at end → wrapperAt s at end d ≡ wrapperAt t at end d
+  wrapper-local : (at end : ℕ) (d : TypeDescriptor) → at < end → From at end → wrapperAt limit s at end d ≡ wrapperAt limit t at end d
   unfolding wrapperAt annotationsAt
   wrapper-local at end d h same =
       then-same (length-each s (at + 1) end (d .«length_code») (omega arith))
       (length-local (at + 1) end (d .«length_code») (later at (at + 1) end (omega arith) same)) (λ l b.
-      ap (λ (o : Outcome Unsigned). andThen o (wrapperTests at end l))
+      ap (λ (o : Outcome Unsigned). andThen o (wrapperTests limit at end l))
       (var-uint-local s t (l .body) end e (λ i a c. same i (omega (arith, b .low)) (omega (arith, looked-high s (l .body) end)))))
 
   inner-local : (at end : ℕ) → From at end → andThen (peekedDescriptor s at end) (innerValue s at end) ≡ andThen (peekedDescriptor t at end) (innerValue t at end)
@@ -77,27 +77,28 @@ module _ (s t : List ℕ) (e : length s ≡ length t) where
       then-same (peeked-each s at end) (peeked-local at end same) (λ d b.
       refuse-same (isWrapper (d .kind)) 27 at (λ _. refuse-same (isPad (d .kind)) 28 at (λ _. plain-local at end d (b .before) same)))
 
-  value-at-local : (at end : ℕ) (d : TypeDescriptor) → at < end → From at end → valueAt s at end d ≡ valueAt t at end d
+  value-at-local : (at end : ℕ) (d : TypeDescriptor) → at < end → From at end → valueAt limit s at end d ≡ valueAt limit t at end d
   unfolding valueAt annotatedValue unwrapped
   value-at-local at end d h same =
       pick-same (isWrapper (d .kind))
       (λ _.
-      then-same (wrapper-each s at end d h) (wrapper-local at end d h same) (λ w b.
+      then-same (wrapper-each limit s at end d h) (wrapper-local at end d h same) (λ w b.
       ap (λ (o : Outcome Spans). andThen o (wrapped at w)) (inner-local (w .value) end (later at (w .value) end (omega (arith, b .low, b .some)) same))))
       (λ _. plain-local at end d h same)
 
-  pub frame-local : (at end : ℕ) → Same s t at end → readFrame s at end ≡ readFrame t at end
+  pub frame-local : (at end : ℕ) → Same s t at end → readFrame limit s at end ≡ readFrame limit t at end
   unfolding readFrame frameAt
   frame-local at end same =
       then-same (peeked-each s at end) (peeked-local at end same) (λ d b.
       pick-same (isPad (d .kind)) (λ _. ap (λ (o : Outcome Padding). andThen o asPadding) (pad-local at end d same))
       (λ _. ap (λ (o : Outcome Spans). andThen o asValued) (value-at-local at end d (b .before) same)))
 
-  pub value-local : (at end : ℕ) → Same s t at end → readValue s at end ≡ readValue t at end
+  pub value-local : (at end : ℕ) → Same s t at end → readValue limit s at end ≡ readValue limit t at end
   unfolding readValue
   value-local at end same =
       then-same (peeked-each s at end) (peeked-local at end same) (λ d b. value-at-local at end d (b .before) same)
 
+module _ (s t : List ℕ) (e : length s ≡ length t) where
   -- An annotation step depends on its ID's bytes alone.
   pub annotation-local : (at end : ℕ) → Same s t at (lookedTo s at end) → readAnnotation s at end ≡ readAnnotation t at end
   unfolding readAnnotation
@@ -187,33 +188,34 @@ module _ (s t : List ℕ) (e : length s ≡ length t) where
         ends = w .ends;
       }
 
-  value-moves : (at end : ℕ) (v : Spans) → SameHeader at v → (b : ValueBytes s at end v) → Within b → (c : ValueBytes t at end v) × Within c
+module _ (limit : ℕ) (s t : List ℕ) (e : length s ≡ length t) where
+  value-moves : (at end : ℕ) (v : Spans) → SameHeader s t e at v → (b : ValueBytes s at end v) → Within limit b → (c : ValueBytes t at end v) × Within limit c
   unfolding wrapper-moves
   value-moves at end v same (plain w) l =
-      (plain (typed-moves at end v (λ i a b. same .value i (omega (arith, w .descriptor)) b) w), l)
-  value-moves at end v same (annotated w) l = (annotated (wrapper-moves at end v same w), l)
+      (plain (typed-moves s t e at end v (λ i a b. same .value i (omega (arith, w .descriptor)) b) w), l)
+  value-moves at end v same (annotated w) l = (annotated (wrapper-moves s t e at end v same w), l)
 
   -- A value is framed the same where its header is.
-  pub value-given-local : (at end : ℕ) (v : Spans) → SameHeader at v → readValue s at end ≡ gives v → (readValue t at end ≡ gives v) × (readFrame t at end ≡ gives (valued v))
+  pub value-given-local : (at end : ℕ) (v : Spans) → SameHeader s t e at v → readValue limit s at end ≡ gives v → (readValue limit t at end ≡ gives v) × (readFrame limit t at end ≡ gives (valued v))
   value-given-local at end v same r =
-      let b = values-sound s at end v r in
+      let b = values-sound limit s at end v r in
       let c = value-moves at end v same (b .0) (b .1) in
-      values-complete t at end v (c .0) (c .1)
+      values-complete limit t at end v (c .0) (c .1)
 
   -- A pad is framed the same where what stands before its body is.
-  pub pad-given-local : (at end : ℕ) (p : Padding) → Same s t at (p .body) → readPad s at end ≡ gives p → readFrame t at end ≡ gives (padding p)
+  pub pad-given-local : (at end : ℕ) (p : Padding) → Same s t at (p .body) → readPad s at end ≡ gives p → readFrame limit t at end ≡ gives (padding p)
   pad-given-local at end p same r =
-      let n = pads-sound s at end p r in pads-complete t at end p (pad-moves at end p same (n .0)) (n .1) .1
+      let n = pads-sound s at end p r in pads-complete limit t at end p (pad-moves s t e at end p same (n .0)) (n .1) .1
 
 -- What a frame gives is what the reading of its kind gives.
-pub data FrameIs (s : List ℕ) (at end : ℕ) : Frame → Type 0 where
-  pad-is : {p : Padding} → readPad s at end ≡ gives p → FrameIs s at end (padding p)
-  value-is : {v : Spans} → readValue s at end ≡ gives v → FrameIs s at end (valued v)
+pub data FrameIs (limit : ℕ) (s : List ℕ) (at end : ℕ) : Frame → Type 0 where
+  pad-is : {p : Padding} → readPad s at end ≡ gives p → FrameIs limit s at end (padding p)
+  value-is : {v : Spans} → readValue limit s at end ≡ gives v → FrameIs limit s at end (valued v)
 
-pub frame-is : (s : List ℕ) (at end : ℕ) → Each (FrameIs s at end) (readFrame s at end)
+pub frame-is : (limit : ℕ) (s : List ℕ) (at end : ℕ) → Each (FrameIs limit s at end) (readFrame limit s at end)
 unfolding readFrame frameAt readPad padOrNone readValue
-frame-is s at end =
+frame-is limit s at end =
     each-then (each-if (peekedDescriptor s at end) (λ d e. e)) (λ d e.
     each-pick (isPad (d .kind))
     (λ k. each-then (each-if (padAt s at end d) (λ p q. q)) (λ p q. given (pad-is (rw (e, k, q)))))
-    (λ k. each-then (each-if (valueAt s at end d) (λ v q. q)) (λ v q. given (value-is (rw (e, q))))))
+    (λ k. each-then (each-if (valueAt limit s at end d) (λ v q. q)) (λ v q. given (value-is (rw (e, q))))))

@@ -15,12 +15,12 @@ use Rattle.framing.specs.Private.Located.{Location, innerTests, innerAt,
 use Rattle.framing.proofs.Bounds.{peeked-each, wrapper-each}
 
 -- the value stands in the part
-pub location-each : (s : List ℕ) (at end : ℕ) (d : TypeDescriptor) → at < end → end ≤ length s → Each (λ o. (o .value < end) × (end ≤ length s)) (locationAt s at end d)
+pub location-each : (limit : ℕ) (s : List ℕ) (at end : ℕ) (d : TypeDescriptor) → at < end → end ≤ length s → Each (λ o. (o .value < end) × (end ≤ length s)) (locationAt limit s at end d)
 unfolding locationAt locationInWrapper innerAt innerTests
-location-each s at end d h k =
+location-each limit s at end d h k =
     each-pick (isWrapper (d .kind))
     (λ _.
-    each-then (wrapper-each s at end d h) (λ w _.
+    each-then (wrapper-each limit s at end d h) (λ w _.
     each-then (peeked-each s (w .value) end) (λ i b.
     each-refuse (isWrapper (i .kind)) 27 (w .value) (λ _.
     each-refuse (isPad (i .kind)) 28 (w .value) (λ _.
@@ -69,13 +69,13 @@ unwrapped-located s at end w n =
     ∙ then-like (peekedDescriptor s (w .value) end) (inner-located s at end w n)
     ∙ sym (then-then (peekedDescriptor s (w .value) end) (innerTests w) (locatedValue s at end))
 
-annotated-located : (s : List ℕ) (at end : ℕ) (d : TypeDescriptor) → at < end → annotatedValue s at end d ≡ andThen (locationInWrapper s at end d) (locatedValue s at end)
+annotated-located : (limit : ℕ) (s : List ℕ) (at end : ℕ) (d : TypeDescriptor) → at < end → annotatedValue limit s at end d ≡ andThen (locationInWrapper limit s at end d) (locatedValue s at end)
 unfolding annotatedValue locationInWrapper
-annotated-located s at end d h =
-    then-same (wrapper-each s at end d h) refl (λ w b. unwrapped-located s at end w (b .more))
-    ∙ sym (then-then (wrapperAt s at end d) (innerAt s end) (locatedValue s at end))
+annotated-located limit s at end d h =
+    then-same (wrapper-each limit s at end d h) refl (λ w b. unwrapped-located s at end w (b .more))
+    ∙ sym (then-then (wrapperAt limit s at end d) (innerAt s end) (locatedValue s at end))
 
-pub value-located : (s : List ℕ) (at end : ℕ) (d : TypeDescriptor) → at < end → valueAt s at end d ≡ andThen (locationAt s at end d) (locatedValue s at end)
+pub value-located : (limit : ℕ) (s : List ℕ) (at end : ℕ) (d : TypeDescriptor) → at < end → valueAt limit s at end d ≡ andThen (locationAt limit s at end d) (locatedValue s at end)
 unfolding valueAt locationAt
-value-located s at end d h =
-    by-case (isWrapper (d .kind)) (λ e. rw e (annotated-located s at end d h)) (λ e. rw e (plain-located s at end d))
+value-located limit s at end d h =
+    by-case (isWrapper (d .kind)) (λ e. rw e (annotated-located limit s at end d h)) (λ e. rw e (plain-located s at end d))

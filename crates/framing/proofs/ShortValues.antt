@@ -78,17 +78,17 @@ pub record ShortBounds (s : List ℕ) (at end : ℕ) (v : Spans) : Type 0 where
   pub byte : v .byte ≡ getD s at 0
   pub low : getD s at 0 < 224
 
-module _ (s : List ℕ) (at end : ℕ) {v : Spans} (e : shortValueOf at (readValue s at end) ≡ shortValue v) where
+module _ (limit : ℕ) (s : List ℕ) (at end : ℕ) {v : Spans} (e : shortValueOf at (readValue limit s at end) ≡ shortValue v) where
   short-typed : TypedValue s at end v
   short-typed =
-      let r = said at (readValue s at end) e in
-      bare (values-sound s at end v (r .gave) .0) (r .descriptor)
+      let r = said at (readValue limit s at end) e in
+      bare (values-sound limit s at end v (r .gave) .0) (r .descriptor)
 
-  pub short-read : readValue s at end ≡ gives v
-  short-read = said at (readValue s at end) e .gave
+  pub short-read : readValue limit s at end ≡ gives v
+  short-read = said at (readValue limit s at end) e .gave
 
-  pub short-framed : readFrame s at end ≡ gives (valued v)
-  short-framed = values-complete s at end v (plain short-typed) (omega (arith, said at (readValue s at end) e .near)) .1
+  pub short-framed : readFrame limit s at end ≡ gives (valued v)
+  short-framed = values-complete limit s at end v (plain short-typed) (omega (arith, said at (readValue limit s at end) e .near)) .1
 
   pub short-bounds : ShortBounds s at end v
   short-bounds =
@@ -100,7 +100,7 @@ module _ (s : List ℕ) (at end : ℕ) {v : Spans} (e : shortValueOf at (readVal
         annotations = t .annotations;
         descriptor = t .descriptor;
         bodied = t .low;
-        near = said at (readValue s at end) e .near;
+        near = said at (readValue limit s at end) e .near;
         ended = t .order;
         within = t .fits;
         byte = t .byte;
@@ -110,17 +110,17 @@ module _ (s : List ℕ) (at end : ℕ) {v : Spans} (e : shortValueOf at (readVal
 -- ---- what is read at a position
 
 -- nothing where the part has no byte, or is outside the slice
-pub none-left : (s : List ℕ) (at end : ℕ) → (at < end → end ≤ length s → ⊥) → shortValueOf at (readValue s at end) ≡ noShortValue
+pub none-left : (limit : ℕ) (s : List ℕ) (at end : ℕ) → (at < end → end ≤ length s → ⊥) → shortValueOf at (readValue limit s at end) ≡ noShortValue
 unfolding readValue
-none-left s at end h =
+none-left limit s at end h =
     never-said at (each-then (peeked-each s at end) (λ d b. absurd (h (b .before) (b .inside))))
 
-module _ (s : List ℕ) (at end : ℕ) (l : at < end) (m : end ≤ length s) where
+module _ (limit : ℕ) (s : List ℕ) (at end : ℕ) (l : at < end) (m : end ≤ length s) where
   -- a value with a wrapper has its descriptor further on
-  wrapped-on : isWrapper (here s at .kind) ≡ true → Each (λ v. v .descriptor ≡ at → at + 1 + shortBytes < v .body) (annotatedValue s at end (here s at))
+  wrapped-on : isWrapper (here s at .kind) ≡ true → Each (λ v. v .descriptor ≡ at → at + 1 + shortBytes < v .body) (annotatedValue limit s at end (here s at))
   unfolding valueAt descriptorOf
   wrapped-on w =
-      each-map (rw w at (value-sound s at end l m)) (λ v b d.
+      each-map (rw w at (value-sound limit s at end l m)) (λ v b d.
       absurd (omega (arith, wrapper-kind (typeAt s at) (codeAt s at) w .type-is, low-type (bare (b .0) d .type))))
 
   unwrapped-none : isWrapper (here s at .kind) ≡ true → Each (λ _. ⊥) (valueWithoutAnnotations s at end (here s at))
@@ -129,7 +129,7 @@ module _ (s : List ℕ) (at end : ℕ) (l : at < end) (m : end ≤ length s) whe
       each-map (plain-sound s at end l m) (λ v t. omega (arith, wrapper-kind (typeAt s at) (codeAt s at) w .type-is, low-type (t .type)))
 
   -- so that only a value without one is said
-  pub plain-said : shortValueOf at (readValue s at end) ≡ shortValueOf at (valueWithoutAnnotations s at end (here s at))
+  pub plain-said : shortValueOf at (readValue limit s at end) ≡ shortValueOf at (valueWithoutAnnotations s at end (here s at))
   unfolding readValue valueAt
   plain-said =
       rw (peeked-here s at end l m)

@@ -18,7 +18,7 @@ use Rattle.numbers.specs.Descriptor.{descriptorOf, kindOf}
 use Rattle.numbers.specs.declared.type_descriptor.TypeDescriptor.{TypeDescriptor}
 use Rattle.numbers.proofs.Outcomes.{by-test, by-case, Each, given, each-refuse, each-pick, each-then, each-map, each-both, each-of}
 use Rattle.numbers.proofs.Meaning.{ReadAt, var-uint-each}
-use Rattle.framing.specs.Answers.{peekedDescriptor, Sized, sizedBy, lengthAt, valueCode, badFloat, shortTimestamp, emptyOrdered, lengthTests, valueLength, fitting, valueWithoutAnnotations, padded, padAt, Wrapping, wrapperTests, annotationsAt, wrapperAt, innerValue, wrapped, unwrapped, annotatedValue, valueAt, readValue, padOrNone, readPad, isPad, isWrapper, noValue, mostAnnotations}
+use Rattle.framing.specs.Answers.{peekedDescriptor, Sized, sizedBy, lengthAt, valueCode, badFloat, shortTimestamp, emptyOrdered, lengthTests, valueLength, fitting, valueWithoutAnnotations, padded, padAt, Wrapping, wrapperTests, annotationsAt, wrapperAt, innerValue, wrapped, unwrapped, annotatedValue, valueAt, readValue, padOrNone, readPad, isPad, isWrapper, noValue}
 use Rattle.framing.specs.Spans.{Spans, Padding}
 use Rattle.framing.specs.Format.{typeAt, codeAt, CodeLength, short, long, ValueLength, none, null, coded, ordered, Legal, TypedValue, NopPadding, AnnotationWrapper, ValueBytes, plain, annotated}
 use Rattle.framing.specs.Meaning.{Within, ValuesSound, PadsSound}
@@ -186,7 +186,7 @@ inner-sound s at end =
     each-refuse (isPad (here s at .kind)) 28 at (λ _. plain-sound s at end (b .before) (b .inside)))))
 
 -- a wrapper's two lengths, and what they leave to its value
-pub record WrapperMeaning (s : List ℕ) (at end : ℕ) (w : Wrapping) : Type 0 where
+pub record WrapperMeaning (limit : ℕ) (s : List ℕ) (at end : ℕ) (w : Wrapping) : Type 0 where
   pub combined : ℕ
   pub after : ℕ
   pub field : CodeLength s (at + 1) end after (codeAt s at) combined
@@ -197,18 +197,18 @@ pub record WrapperMeaning (s : List ℕ) (at end : ℕ) (w : Wrapping) : Type 0 
   pub left : combined ≡ w .expected + (w .value - after)
   pub near : after ≤ at + 1 + mostBytes
   pub close : w .annotations ≤ after + mostBytes
-  pub few : w .value ≤ w .annotations + mostAnnotations
+  pub few : w .value ≤ w .annotations + limit
 
 -- the tests of a wrapper's lengths
-lengths-sound : (s : List ℕ) (at end : ℕ) (l : Sized) → SizedAt (at + 1) end l → (0 < l .size → CodeLength s (at + 1) end (l .body) (codeAt s at) (l .size)) → Each (WrapperMeaning s at end) (annotationsAt s at end l)
+lengths-sound : (limit : ℕ) (s : List ℕ) (at end : ℕ) (l : Sized) → SizedAt (at + 1) end l → (0 < l .size → CodeLength s (at + 1) end (l .body) (codeAt s at) (l .size)) → Each (WrapperMeaning limit s at end) (annotationsAt limit s at end l)
 unfolding annotationsAt wrapperTests
-lengths-sound s at end l z field =
+lengths-sound limit s at end l z field =
     each-then (var-uint-each s (l .body) end) (λ u r.
     let begins : l .body < u .next = rw (r .is) (r .number .begins) in
     each-refuse (eqb (u .value) 0) 23 at (λ a.
     each-refuse (ltb (l .size) (u .next - l .body + u .value)) 24 at (λ b.
     each-refuse (eqb (l .size) (u .next - l .body + u .value)) 25 at (λ c.
-    each-refuse (ltb mostAnnotations (u .value)) 26 at (λ e.
+    each-refuse (ltb limit (u .value)) 26 at (λ e.
     each-refuse (ltb (end - u .next) (u .value)) 5 (u .next) (λ d.
     let more : u .next - l .body + u .value ≤ l .size = ltb-false (l .size) _ b in
     given
@@ -223,25 +223,25 @@ lengths-sound s at end l z field =
       left = omega arith;
       near = z .near;
       close = subst (λ (x : Unsigned). x .next ≤ l .body + mostBytes) (sym (r .is)) (r .short);
-      few = omega (arith, ltb-false mostAnnotations (u .value) e);
+      few = omega (arith, ltb-false limit (u .value) e);
     })))))))
 
-wrapper-sound : (s : List ℕ) (at end : ℕ) → at < end → Each (WrapperMeaning s at end) (wrapperAt s at end (here s at))
+wrapper-sound : (limit : ℕ) (s : List ℕ) (at end : ℕ) → at < end → Each (WrapperMeaning limit s at end) (wrapperAt limit s at end (here s at))
 unfolding wrapperAt lengthAt descriptorOf
-wrapper-sound s at end h =
+wrapper-sound limit s at end h =
     by-case (eqb (codeAt s at) 15)
     (λ e.
     rw e
-    (lengths-sound s at end (record { body = at + 1; size = 0 }) (record { low = omega arith; high = omega arith; near = omega arith }) (λ n. absurd (omega arith))))
+    (lengths-sound limit s at end (record { body = at + 1; size = 0 }) (record { low = omega arith; high = omega arith; near = omega arith }) (λ n. absurd (omega arith))))
     (λ e.
     let c : codeAt s at < 15 = omega (arith, mod-lt (getD s at 0) {m = 16} (omega arith), eqb-false (codeAt s at) 15 e) in
     each-then (each-both (code-sound s (at + 1) end (codeAt s at) c) (length-each s (at + 1) end (codeAt s at) (omega arith))) (λ l t.
-    lengths-sound s at end l (t .1) (λ _. t .0)))
+    lengths-sound limit s at end l (t .1) (λ _. t .0)))
 
-annotated-sound : (s : List ℕ) (at end : ℕ) → at < end → isWrapper (here s at .kind) ≡ true → Each (λ v. (b : ValueBytes s at end v) × Within b) (annotatedValue s at end (here s at))
+annotated-sound : (limit : ℕ) (s : List ℕ) (at end : ℕ) → at < end → isWrapper (here s at .kind) ≡ true → Each (λ v. (b : ValueBytes s at end v) × Within limit b) (annotatedValue limit s at end (here s at))
 unfolding annotatedValue unwrapped wrapped descriptorOf
-annotated-sound s at end h k =
-    each-then (wrapper-sound s at end h) (λ w t.
+annotated-sound limit s at end h k =
+    each-then (wrapper-sound limit s at end h) (λ w t.
     each-then (each-both (inner-sound s (w .value) end) (inner-peeked-each s (w .value) end)) (λ v io.
     let i = io .0 in
     each-refuse (not (eqb (v .end - v .descriptor) (w .expected))) 29 at (λ n.
@@ -270,21 +270,21 @@ annotated-sound s at end h k =
       (t .near, t .close, omega (arith, t .few), io .1 .near),
     ))))
 
-pub value-sound : (s : List ℕ) (at end : ℕ) → at < end → end ≤ length s → Each (λ v. (b : ValueBytes s at end v) × Within b) (valueAt s at end (here s at))
+pub value-sound : (limit : ℕ) (s : List ℕ) (at end : ℕ) → at < end → end ≤ length s → Each (λ v. (b : ValueBytes s at end v) × Within limit b) (valueAt limit s at end (here s at))
 unfolding valueAt
-value-sound s at end h k =
-    each-pick (isWrapper (here s at .kind)) (λ w. annotated-sound s at end h w)
+value-sound limit s at end h k =
+    each-pick (isWrapper (here s at .kind)) (λ w. annotated-sound limit s at end h w)
     (λ _.
     each-map (each-both (plain-sound s at end h k) (plain-each s at end (here s at) h)) (λ v t.
     (plain (t .0), subst (λ (x : ℕ). v .body ≤ x + 1 + mostBytes) (t .0 .descriptor) (t .1 .near))))
 
 pub values-sound : ValuesSound
 unfolding readValue
-values-sound s at end v e =
+values-sound limit s at end v e =
     each-of
     (each-then (peeked-each s at end) (λ d b.
-    subst (λ (x : TypeDescriptor). Each (λ v. (y : ValueBytes s at end v) × Within y) (valueAt s at end x)) (sym (b .is))
-    (value-sound s at end (b .before) (b .inside))))
+    subst (λ (x : TypeDescriptor). Each (λ v. (y : ValueBytes s at end v) × Within limit y) (valueAt limit s at end x)) (sym (b .is))
+    (value-sound limit s at end (b .before) (b .inside))))
     e
 
 pub pads-sound : PadsSound

@@ -107,23 +107,20 @@ padded end l =
 unfoldable pub padAt : List ℕ → ℕ → ℕ → TypeDescriptor → Outcome Padding
 padAt s at end d = andThen (lengthAt s (at + 1) end (d .«length_code»)) (padded end)
 
--- 26: "over 255 bytes"
-abbrev pub mostAnnotations : ℕ
-mostAnnotations = 255
-
 -- where a wrapper's annotations start, where its value stands, and how long its lengths say that this is
 pub record Wrapping : Type 0 where
   pub annotations : ℕ
   pub value : ℕ
   pub expected : ℕ
 
--- "23, 24, 25, 5, 26", of the wrapper at `at`, its combined length and its annotations' length; by the change request A.10, "let 26 come before 5"
-unfoldable pub wrapperTests : ℕ → ℕ → Sized → Unsigned → Outcome Wrapping
-wrapperTests at end combined u =
+-- "23, 24, 25, 5, 26", of the wrapper at `at`, its combined length and its annotations' length; by the change request A.10, "let 26 come before 5", and by
+-- A.9 26 is "tested by the limits given": more annotation bytes than `limit`
+unfoldable pub wrapperTests : ℕ → ℕ → ℕ → Sized → Unsigned → Outcome Wrapping
+wrapperTests limit at end combined u =
     refuseIf (eqb (u .value) 0) 23 at
     (refuseIf (ltb (combined .size) (u .next - combined .body + u .value)) 24 at
     (refuseIf (eqb (combined .size) (u .next - combined .body + u .value)) 25 at
-    (refuseIf (ltb mostAnnotations (u .value)) 26 at
+    (refuseIf (ltb limit (u .value)) 26 at
     (refuseIf (ltb (end - u .next) (u .value)) 5 (u .next)
     (gives
     (record {
@@ -133,12 +130,12 @@ wrapperTests at end combined u =
     }))))))
 
 -- then "the annotations' VarUInt"
-unfoldable pub annotationsAt : List ℕ → ℕ → ℕ → Sized → Outcome Wrapping
-annotationsAt s at end combined = andThen (varUInt s (combined .body) end) (wrapperTests at end combined)
+unfoldable pub annotationsAt : ℕ → List ℕ → ℕ → ℕ → Sized → Outcome Wrapping
+annotationsAt limit s at end combined = andThen (varUInt s (combined .body) end) (wrapperTests limit at end combined)
 
 -- "Combined length by code (15 counts as 0)", its VarUInt first
-unfoldable pub wrapperAt : List ℕ → ℕ → ℕ → TypeDescriptor → Outcome Wrapping
-wrapperAt s at end d = andThen (lengthAt s (at + 1) end (d .«length_code»)) (annotationsAt s at end)
+unfoldable pub wrapperAt : ℕ → List ℕ → ℕ → ℕ → TypeDescriptor → Outcome Wrapping
+wrapperAt limit s at end d = andThen (lengthAt s (at + 1) end (d .«length_code»)) (annotationsAt limit s at end)
 
 -- "27, 28, the inner value's own tests", at the inner byte
 unfoldable pub innerValue : List ℕ → ℕ → ℕ → TypeDescriptor → Outcome Spans
@@ -164,12 +161,12 @@ unfoldable pub unwrapped : List ℕ → ℕ → ℕ → Wrapping → Outcome Spa
 unwrapped s at end w =
     andThen (andThen (peekedDescriptor s (w .value) end) (innerValue s (w .value) end)) (wrapped at w)
 
-unfoldable pub annotatedValue : List ℕ → ℕ → ℕ → TypeDescriptor → Outcome Spans
-annotatedValue s at end d = andThen (wrapperAt s at end d) (unwrapped s at end)
+unfoldable pub annotatedValue : ℕ → List ℕ → ℕ → ℕ → TypeDescriptor → Outcome Spans
+annotatedValue limit s at end d = andThen (wrapperAt limit s at end d) (unwrapped s at end)
 
 -- a value with or without a wrapper
-unfoldable pub valueAt : List ℕ → ℕ → ℕ → TypeDescriptor → Outcome Spans
-valueAt s at end d = pick (isWrapper (d .kind)) (annotatedValue s at end d) (valueWithoutAnnotations s at end d)
+unfoldable pub valueAt : ℕ → List ℕ → ℕ → ℕ → TypeDescriptor → Outcome Spans
+valueAt limit s at end d = pick (isWrapper (d .kind)) (annotatedValue limit s at end d) (valueWithoutAnnotations s at end d)
 
 -- what a step meets: a pad or a value
 pub data Frame : Type 0 where
@@ -182,15 +179,15 @@ asPadding p = gives (padding p)
 abbrev pub asValued : Spans → Outcome Frame
 asValued v = gives (valued v)
 
-unfoldable pub frameAt : List ℕ → ℕ → ℕ → TypeDescriptor → Outcome Frame
-frameAt s at end d = pick (isPad (d .kind)) (andThen (padAt s at end d) asPadding) (andThen (valueAt s at end d) asValued)
+unfoldable pub frameAt : ℕ → List ℕ → ℕ → ℕ → TypeDescriptor → Outcome Frame
+frameAt limit s at end d = pick (isPad (d .kind)) (andThen (padAt s at end d) asPadding) (andThen (valueAt limit s at end d) asValued)
 
 -- The entries: a value, "22 at a pad or E0"; a pad or a value; and the readings that they are made of, 22 where the byte begins something else.
-unfoldable pub readValue : List ℕ → ℕ → ℕ → Outcome Spans
-readValue s at end = andThen (peekedDescriptor s at end) (valueAt s at end)
+unfoldable pub readValue : ℕ → List ℕ → ℕ → ℕ → Outcome Spans
+readValue limit s at end = andThen (peekedDescriptor s at end) (valueAt limit s at end)
 
-unfoldable pub readFrame : List ℕ → ℕ → ℕ → Outcome Frame
-readFrame s at end = andThen (peekedDescriptor s at end) (frameAt s at end)
+unfoldable pub readFrame : ℕ → List ℕ → ℕ → ℕ → Outcome Frame
+readFrame limit s at end = andThen (peekedDescriptor s at end) (frameAt limit s at end)
 
 unfoldable pub lengthOrNone : List ℕ → ℕ → ℕ → TypeDescriptor → Outcome Sized
 lengthOrNone s at end d = refuseIf (noValue (d .kind)) 22 at (valueLength s at end d)
@@ -204,11 +201,11 @@ padOrNone s at end d = refuseIf (not (isPad (d .kind))) 22 at (padAt s at end d)
 unfoldable pub readPad : List ℕ → ℕ → ℕ → Outcome Padding
 readPad s at end = andThen (peekedDescriptor s at end) (padOrNone s at end)
 
-unfoldable pub wrapperOrNone : List ℕ → ℕ → ℕ → TypeDescriptor → Outcome Wrapping
-wrapperOrNone s at end d = refuseIf (not (isWrapper (d .kind))) 22 at (wrapperAt s at end d)
+unfoldable pub wrapperOrNone : ℕ → List ℕ → ℕ → ℕ → TypeDescriptor → Outcome Wrapping
+wrapperOrNone limit s at end d = refuseIf (not (isWrapper (d .kind))) 22 at (wrapperAt limit s at end d)
 
-unfoldable pub readWrapper : List ℕ → ℕ → ℕ → Outcome Wrapping
-readWrapper s at end = andThen (peekedDescriptor s at end) (wrapperOrNone s at end)
+unfoldable pub readWrapper : ℕ → List ℕ → ℕ → ℕ → Outcome Wrapping
+readWrapper limit s at end = andThen (peekedDescriptor s at end) (wrapperOrNone limit s at end)
 
 -- "`raw/annotations_iterator.rs` reads one VarUInt a step": an ID and where the next begins, or the end
 pub data Annotated : Type 0 where

@@ -1,3 +1,4 @@
+pub mod Limits
 pub mod Spans
 pub mod Format
 pub mod Answers

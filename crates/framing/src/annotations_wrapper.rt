@@ -1,6 +1,6 @@
 // Annotation wrappers: where the annotations of a value start, and where the value stands.
 //
-// Each function reads the part at..end of `s`.
+// Each function reads the part at..end of `s`; `limit` is the most bytes that a value's annotations may have.
 ghost use mathlib.Core.Path.{_≡_};
 ghost use Prim.Native.Nat.{_+_, _≤_, _<_, _^_};
 ghost use lib.ListN.{length};
@@ -29,9 +29,6 @@ use numbers::refusal::WRAPPER_IN_WRAPPER;
 use numbers::type_descriptor::TypeDescriptor;
 use numbers::var_uint::VarUInt;
 
-// The most bytes that a value's annotations may have.
-const MOST_ANNOTATIONS: usize = 255;
-
 // Tests the wrapper at `at`: its combined length is counted from `body` on, and its annotations' length, `size`, ends at
 // `annotations`.
 fn check_wrapper(
@@ -41,9 +38,10 @@ fn check_wrapper(
     combined: usize,
     size: usize,
     annotations: usize,
+    limit: usize,
 ) -> AnnotationsWrapper
     requires { ⌜ (body ≤ annotations) × (annotations ≤ end) × (annotations ≤ body + mostBytes) × (size < 2 ^ 63) ⌝ }
-    ensures { λ r. ⌜ wrapperRead r ≡ wrapperTests at end (record { body = body; size = combined }) (record { value = size; next = annotations }) ⌝ }
+    ensures { λ r. ⌜ wrapperRead r ≡ wrapperTests limit at end (record { body = body; size = combined }) (record { value = size; next = annotations }) ⌝ }
 {
     if size == 0 {
         return AnnotationsWrapper::Refused(Refusal {
@@ -65,7 +63,7 @@ fn check_wrapper(
             position: at,
         });
     }
-    if MOST_ANNOTATIONS < size {
+    if limit < size {
         return AnnotationsWrapper::Refused(Refusal {
             number: TOO_MANY_ANNOTATIONS,
             position: at,
@@ -92,14 +90,23 @@ pub(crate) fn read_wrapper(
     at: usize,
     end: usize,
     descriptor: TypeDescriptor,
+    limit: usize,
 ) -> AnnotationsWrapper
     requires { ⌜ (at < end) × (end ≤ length (now s)) ⌝ }
-    ensures { λ r. ⌜ wrapperRead r ≡ wrapperAt (now (s .entry)) at end descriptor ⌝ }
+    ensures { λ r. ⌜ wrapperRead r ≡ wrapperAt limit (now (s .entry)) at end descriptor ⌝ }
 {
     let after = at + 1;
     match read_length(s, after, end, descriptor.length_code) {
         Length::Known { body, size } => match read_var_uint(s, body, end) {
-            VarUInt::Value { value, next } => check_wrapper(at, end, body, size, value, next),
+            VarUInt::Value { value, next } => check_wrapper(
+                at,
+                end,
+                body,
+                size,
+                value,
+                next,
+                limit,
+            ),
             VarUInt::Refused(refusal) => AnnotationsWrapper::Refused(refusal),
         },
         Length::Refused(refusal) => AnnotationsWrapper::Refused(refusal),
@@ -161,11 +168,17 @@ fn locate_inner_value(
 
 // Where the value of the wrapper with this descriptor at `at` stands: ion-rust's `read_annotated_value` up to the value's length, which `read_located_value` reads
 // with or without a wrapper.
-fn locate_annotated_value(s: &[u8], at: usize, end: usize, descriptor: TypeDescriptor) -> Located
+fn locate_annotated_value(
+    s: &[u8],
+    at: usize,
+    end: usize,
+    descriptor: TypeDescriptor,
+    limit: usize,
+) -> Located
     requires { ⌜ (at < end) × (end ≤ length (now s)) ⌝ }
-    ensures { λ r. ⌜ locatedRead r ≡ locationInWrapper (now (s .entry)) at end descriptor ⌝ }
+    ensures { λ r. ⌜ locatedRead r ≡ locationInWrapper limit (now (s .entry)) at end descriptor ⌝ }
 {
-    match read_wrapper(s, at, end, descriptor) {
+    match read_wrapper(s, at, end, descriptor, limit) {
         AnnotationsWrapper::Wrapper {
             annotations,
             value,
@@ -176,13 +189,19 @@ fn locate_annotated_value(s: &[u8], at: usize, end: usize, descriptor: TypeDescr
 }
 
 // Where the value with this descriptor at `at`, or in the wrapper with this descriptor, stands.
-pub(crate) fn locate_value(s: &[u8], at: usize, end: usize, descriptor: TypeDescriptor) -> Located
+pub(crate) fn locate_value(
+    s: &[u8],
+    at: usize,
+    end: usize,
+    descriptor: TypeDescriptor,
+    limit: usize,
+) -> Located
     requires { ⌜ (at < end) × (end ≤ length (now s)) ⌝ }
-    ensures { λ r. ⌜ locatedRead r ≡ locationAt (now (s .entry)) at end descriptor ⌝ }
+    ensures { λ r. ⌜ locatedRead r ≡ locationAt limit (now (s .entry)) at end descriptor ⌝ }
 {
     let kind = descriptor.kind;
     if is_wrapper(kind) {
-        return locate_annotated_value(s, at, end, descriptor);
+        return locate_annotated_value(s, at, end, descriptor, limit);
     }
     if no_value(kind) {
         return Located::Refused(Refusal {

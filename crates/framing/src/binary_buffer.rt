@@ -1,11 +1,12 @@
 // Frames what stands at a position: values, pads and annotation wrappers.
 //
-// Each function reads the part at..end of `s`, whose first byte is the descriptor.
+// Each function reads the part at..end of `s`, whose first byte is the descriptor; `limit` is the most bytes that a value's annotations may have.
 ghost use mathlib.Core.Path.{_≡_};
 ghost use Prim.Native.Nat.{ℕ, _+_, _≤_, _<_};
 ghost use lib.ListN.{length, getD};
 ghost use Rattle.numbers.specs.ShortVarUInt.{shortBytes};
 ghost use Rattle.framing.specs.Answers.{peekedDescriptor, isPad, isWrapper, noValue, fitting, padAt, valueAt, frameAt, readValue, readFrame, readValueLength, readPad, readWrapper};
+ghost use Rattle.framing.specs.Limits.{limited};
 ghost use Rattle.framing.specs.ShortValue.{bareSpans, shortValueOf, beginsValue};
 ghost use Rattle.framing.specs.Read.{lengthRead, padRead, wrapperRead, framedRead, frameRead, spansOf, shortValueRead};
 ghost use Rattle.framing.specs.Private.Peeked.{peekedRead};
@@ -26,8 +27,10 @@ use crate::encoded_value::inline_length;
 use crate::encoded_value::read_length;
 use crate::encoded_value::too_short;
 use crate::encoded_value::value_length;
+use crate::limits::out_of_range;
 use numbers::binary_buffer::outside;
 use numbers::binary_buffer::short_var_uint;
+use numbers::refusal::LIMIT_OUT_OF_RANGE;
 use numbers::refusal::NO_VALUE_LEFT;
 use numbers::refusal::NOT_A_VALUE;
 use numbers::refusal::OUTSIDE;
@@ -211,11 +214,17 @@ fn read_located_value(
 }
 
 // The value with this descriptor at `at`, with or without a wrapper.
-fn read_value_at(s: &[u8], at: usize, end: usize, descriptor: TypeDescriptor) -> Framed
+fn read_value_at(
+    s: &[u8],
+    at: usize,
+    end: usize,
+    descriptor: TypeDescriptor,
+    limit: usize,
+) -> Framed
     requires { ⌜ (at < end) × (end ≤ length (now s)) ⌝ }
-    ensures { λ r. ⌜ framedRead r ≡ valueAt (now (s .entry)) at end descriptor ⌝ }
+    ensures { λ r. ⌜ framedRead r ≡ valueAt limit (now (s .entry)) at end descriptor ⌝ }
 {
-    match locate_value(s, at, end, descriptor) {
+    match locate_value(s, at, end, descriptor, limit) {
         Located::Value {
             annotations,
             value,
@@ -227,9 +236,9 @@ fn read_value_at(s: &[u8], at: usize, end: usize, descriptor: TypeDescriptor) ->
 }
 
 // The pad or the value with this descriptor at `at`.
-fn read_frame_at(s: &[u8], at: usize, end: usize, descriptor: TypeDescriptor) -> Frame
+fn read_frame_at(s: &[u8], at: usize, end: usize, descriptor: TypeDescriptor, limit: usize) -> Frame
     requires { ⌜ (at < end) × (end ≤ length (now s)) ⌝ }
-    ensures { λ r. ⌜ frameRead r ≡ frameAt (now (s .entry)) at end descriptor ⌝ }
+    ensures { λ r. ⌜ frameRead r ≡ frameAt limit (now (s .entry)) at end descriptor ⌝ }
 {
     let kind = descriptor.kind;
     if is_pad(kind) {
@@ -238,18 +247,24 @@ fn read_frame_at(s: &[u8], at: usize, end: usize, descriptor: TypeDescriptor) ->
             NopPad::Refused(refusal) => Frame::Refused(refusal),
         };
     }
-    match read_value_at(s, at, end, descriptor) {
+    match read_value_at(s, at, end, descriptor, limit) {
         Framed::Value(value) => Frame::Value(value),
         Framed::Refused(refusal) => Frame::Refused(refusal),
     }
 }
 
 // The value at `at`, with or without a wrapper.
-pub fn read_value(s: &[u8], at: usize, end: usize) -> Framed
-    ensures { λ r. ⌜ framedRead r ≡ readValue (now (s .entry)) at end ⌝ }
+pub fn read_value(s: &[u8], at: usize, end: usize, limit: usize) -> Framed
+    ensures { λ r. ⌜ framedRead r ≡ limited limit (readValue limit (now (s .entry)) at end) ⌝ }
 {
+    if out_of_range(limit) {
+        return Framed::Refused(Refusal {
+            number: LIMIT_OUT_OF_RANGE,
+            position: 0,
+        });
+    }
     match peek_type_descriptor(s, at, end) {
-        Peeked::At(descriptor) => read_value_at(s, at, end, descriptor),
+        Peeked::At(descriptor) => read_value_at(s, at, end, descriptor, limit),
         Peeked::Refused(refusal) => Framed::Refused(refusal),
     }
 }
@@ -280,7 +295,7 @@ pub fn bare_value(byte: u8, at: usize, body: usize, end: usize) -> EncodedValue
 
 // The value at `at`, where it has no wrapper and its length field has three bytes at most: its descriptor tells its length, or a short VarUInt does.
 pub fn short_value(s: &[u8], at: usize, end: usize) -> ShortValue
-    ensures { λ r. ⌜ shortValueRead (getD (now (s .entry)) at 0) at r ≡ shortValueOf at (readValue (now (s .entry)) at end) ⌝ }
+    ensures { λ r. ⌜ ((limit : ℕ) → shortValueRead (getD (now (s .entry)) at 0) at r ≡ shortValueOf at (readValue limit (now (s .entry)) at end)) ⌝ }
 {
     if s.len() < end {
         return ShortValue::Other;
@@ -309,11 +324,17 @@ pub fn short_value(s: &[u8], at: usize, end: usize) -> ShortValue
 }
 
 // The pad or the value at `at`.
-pub fn read_frame(s: &[u8], at: usize, end: usize) -> Frame
-    ensures { λ r. ⌜ frameRead r ≡ readFrame (now (s .entry)) at end ⌝ }
+pub fn read_frame(s: &[u8], at: usize, end: usize, limit: usize) -> Frame
+    ensures { λ r. ⌜ frameRead r ≡ limited limit (readFrame limit (now (s .entry)) at end) ⌝ }
 {
+    if out_of_range(limit) {
+        return Frame::Refused(Refusal {
+            number: LIMIT_OUT_OF_RANGE,
+            position: 0,
+        });
+    }
     match peek_type_descriptor(s, at, end) {
-        Peeked::At(descriptor) => read_frame_at(s, at, end, descriptor),
+        Peeked::At(descriptor) => read_frame_at(s, at, end, descriptor, limit),
         Peeked::Refused(refusal) => Frame::Refused(refusal),
     }
 }
@@ -357,9 +378,15 @@ pub fn read_nop_pad(s: &[u8], at: usize, end: usize) -> NopPad
 }
 
 // The wrapper at `at`.
-pub fn read_annotations_wrapper(s: &[u8], at: usize, end: usize) -> AnnotationsWrapper
-    ensures { λ r. ⌜ wrapperRead r ≡ readWrapper (now (s .entry)) at end ⌝ }
+pub fn read_annotations_wrapper(s: &[u8], at: usize, end: usize, limit: usize) -> AnnotationsWrapper
+    ensures { λ r. ⌜ wrapperRead r ≡ limited limit (readWrapper limit (now (s .entry)) at end) ⌝ }
 {
+    if out_of_range(limit) {
+        return AnnotationsWrapper::Refused(Refusal {
+            number: LIMIT_OUT_OF_RANGE,
+            position: 0,
+        });
+    }
     match peek_type_descriptor(s, at, end) {
         Peeked::At(descriptor) => {
             let kind = descriptor.kind;
@@ -369,7 +396,7 @@ pub fn read_annotations_wrapper(s: &[u8], at: usize, end: usize) -> AnnotationsW
                     position: at,
                 });
             }
-            read_wrapper(s, at, end, descriptor)
+            read_wrapper(s, at, end, descriptor, limit)
         }
         Peeked::Refused(refusal) => AnnotationsWrapper::Refused(refusal),
     }

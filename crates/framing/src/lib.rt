@@ -3,3 +3,4 @@ pub mod annotations_iterator;
 mod annotations_wrapper;
 pub mod binary_buffer;
 pub mod encoded_value;
+pub mod limits;

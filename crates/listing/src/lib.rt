@@ -12,6 +12,11 @@ use stepping::cursor::is_last;
 // The most bytes of a map that are listed.
 const MOST: usize = 65536;
 
+// The limits of the walk: the most bytes that a value's annotations may have, and the depth at which a container is not entered.
+const ANNOTATION_LIMIT: usize = 255;
+
+const DEPTH_LIMIT: usize = 32;
+
 // The bytes that are left of a page when it is written out: a line takes fewer.
 const LINE: usize = 256;
 
@@ -153,7 +158,7 @@ fn list_map(map: &[u8], page: &mut [u8]) {
     let most = map.len() + 1;
     let mut i = 0;
     while i < most {
-        let walked = walk.next(map);
+        let walked = walk.next(map, ANNOTATION_LIMIT, DEPTH_LIMIT);
         let item = walked.item;
         taken = put_answer(page, taken, walked.depth, item);
         taken = put_byte(page, taken, b'\n');

@@ -30,24 +30,24 @@ pub at-number : (o : Outcome Item) (e : ℕ) → leftOf o ≡ At e → numberOf 
 at-number (gives i) e h = refl
 at-number (refuses n p) e h = absurd (let z : _≡_ {A = ℕ} 0 1 = cc in omega arith)
 
-module _ (rules : Rules) (s : List ℕ) (at end : ℕ) {n m : ℕ} (q : n ≡ suc m) where
-  pub one-more : (e : ℕ) → leftOf (answerAt rules s at end) ≡ At e → stepRun n rules s at end ≡ answerAt rules s at end ∷ stepRun m rules s e end
+module _ (limit : ℕ) (rules : Rules) (s : List ℕ) (at end : ℕ) {n m : ℕ} (q : n ≡ suc m) where
+  pub one-more : (e : ℕ) → leftOf (answerAt limit rules s at end) ≡ At e → stepRun limit n rules s at end ≡ answerAt limit rules s at end ∷ stepRun limit m rules s e end
   unfolding stepRun
   one-more e h =
-      rw q (ap (λ (l : Left). answerAt rules s at end ∷ onLeft l [] (λ p. stepRun m rules s p end)) h)
+      rw q (ap (λ (l : Left). answerAt limit rules s at end ∷ onLeft l [] (λ p. stepRun limit m rules s p end)) h)
 
-  pub the-last : leftOf (answerAt rules s at end) ≡ Over → stepRun n rules s at end ≡ answerAt rules s at end ∷ []
+  pub the-last : leftOf (answerAt limit rules s at end) ≡ Over → stepRun limit n rules s at end ≡ answerAt limit rules s at end ∷ []
   unfolding stepRun
   the-last h =
-      rw q (ap (λ (l : Left). answerAt rules s at end ∷ onLeft l [] (λ p. stepRun m rules s p end)) h)
+      rw q (ap (λ (l : Left). answerAt limit rules s at end ∷ onLeft l [] (λ p. stepRun limit m rules s p end)) h)
 
-pub none-left : (rules : Rules) (s : List ℕ) (at end : ℕ) {n : ℕ} → n ≡ 0 → stepRun n rules s at end ≡ []
+pub none-left : (limit : ℕ) (rules : Rules) (s : List ℕ) (at end : ℕ) {n : ℕ} → n ≡ 0 → stepRun limit n rules s at end ≡ []
 unfolding stepRun
-none-left rules s at end q = rw q
+none-left limit rules s at end q = rw q
 
 -- an answer that leaves its caller at a place leaves it in the part
-pub left-in : (rules : Rules) (s : List ℕ) (at end : ℕ) → at ≤ end → end ≤ length s → (e : ℕ) → leftOf (answerAt rules s at end) ≡ At e → e ≤ end
-left-in rules s at end l m e = left-moved e (moves rules s end m at l)
+pub left-in : (limit : ℕ) (rules : Rules) (s : List ℕ) (at end : ℕ) → at ≤ end → end ≤ length s → (e : ℕ) → leftOf (answerAt limit rules s at end) ≡ At e → e ≤ end
+left-in limit rules s at end l m e = left-moved e (moves limit rules s end m at l)
   where
     left-moved : (e : ℕ) {o : Outcome Item} → Moves at end o → leftOf o ≡ At e → e ≤ end
     left-moved e ends h = absurd (let z : _≡_ {A = ℕ} 0 1 = cc in omega arith)
@@ -120,9 +120,9 @@ behind-short : (n : ℕ) (go : ℕ → List (Outcome Item)) → ((e : ℕ) → l
 behind-short n go h (At e) = h e
 behind-short n go h Over = omega arith
 
-pub run-short : (n : ℕ) (rules : Rules) (s : List ℕ) (at end : ℕ) → length (stepRun n rules s at end) ≤ n
+pub run-short : (limit : ℕ) (n : ℕ) (rules : Rules) (s : List ℕ) (at end : ℕ) → length (stepRun limit n rules s at end) ≤ n
 unfolding stepRun
-run-short zero rules s at end = omega arith
-run-short (suc n) rules s at end =
-    let b = behind-short n (λ e. stepRun n rules s e end) (λ e. run-short n rules s e end) (leftOf (answerAt rules s at end)) in
+run-short limit zero rules s at end = omega arith
+run-short limit (suc n) rules s at end =
+    let b = behind-short n (λ e. stepRun limit n rules s e end) (λ e. run-short limit n rules s e end) (leftOf (answerAt limit rules s at end)) in
     omega (arith, b)

@@ -16,6 +16,7 @@ use Rattle.values.specs.Scalars.{valueIn, stepIn}
 use Rattle.records.specs.Buffer.{numberOf, numberIn}
 use Rattle.records.specs.Words.{bodyWords}
 use Rattle.records.proofs.Numbers.{entered-number}
+use Rattle.framing.specs.Limits.{outOfRange}
 use Rattle.maps.specs.Exported.{exportedStep, exportedBody}
 use Rattle.maps.specs.Private.Inside.{insideOf}
 
@@ -32,15 +33,26 @@ inside s start end at kind =
     by-test (λ b. b ≡ true → Inside s start end at kind) (ltb end at) (λ _ e. absurd (true≢false (sym e))) (λ o e.
     record { low = ltb-false at start l; kind-is = ltb-false 2 kind k; order = ltb-false end at o; high = leb-true end (length s) e })))
 
--- an exported step is a step
-pub step-is : (s : List ℕ) (start end position kind : ℕ) → start ≤ position → kind ≤ 2 → exportedStep s start end position kind ≡ answerAt (rulesOf kind) s position end
+-- with a limit that is none a step is refused, and so is an exported one
+pub refused-unranged : (limit : ℕ) (rules : Rules) (s : List ℕ) (at end : ℕ) → outOfRange limit ≡ true → answerAt limit rules s at end ≡ refuses 68 0
+unfolding stepOf found
+refused-unranged limit rules s at end g = rw (answerAt, g)
+
+pub step-unranged : (limit : ℕ) (s : List ℕ) (start end position kind : ℕ) → outOfRange limit ≡ true → exportedStep limit s start end position kind ≡ refuses 68 0
 unfolding exportedStep
-step-is s start end position kind l k = rw (le-ltb position start l, le-ltb 2 kind k)
+step-unranged limit s start end position kind g = rw g
+
+-- an exported step is a step
+pub step-is : (limit : ℕ) (s : List ℕ) (start end position kind : ℕ) → start ≤ position → kind ≤ 2 → exportedStep limit s start end position kind ≡ answerAt limit (rulesOf kind) s position end
+unfolding exportedStep
+step-is limit s start end position kind l k =
+    by-case (outOfRange limit) (λ g. rw g (sym (refused-unranged limit (rulesOf kind) s position end g))) (λ g.
+    rw (g, le-ltb position start l, le-ltb 2 kind k))
 
 -- a step on no part is refused
-pub refused-outside : (rules : Rules) (s : List ℕ) (at end : ℕ) → outsideOf s at end ≡ true → answerAt rules s at end ≡ refuses 50 0
+pub refused-outside : (limit : ℕ) (rules : Rules) (s : List ℕ) (at end : ℕ) → outOfRange limit ≡ false → outsideOf s at end ≡ true → answerAt limit rules s at end ≡ refuses 50 0
 unfolding stepOf found
-refused-outside rules s at end h = rw (answerAt, h)
+refused-outside limit rules s at end g h = rw (answerAt, g, h)
 
 no-order : (s : List ℕ) (at end : ℕ) → end < at → outsideOf s at end ≡ true
 unfolding outsideOf
@@ -51,18 +63,19 @@ unfolding outsideOf
 too-far s at end l h = rw (le-ltb end at l, lt-ltb (length s) end h)
 
 -- and so is an exported step that is not inside
-pub step-outside : (s : List ℕ) (start end at kind : ℕ) → insideOf s start end at kind ≡ false → exportedStep s start end at kind ≡ refuses 50 0
+pub step-outside : (limit : ℕ) (s : List ℕ) (start end at kind : ℕ) → outOfRange limit ≡ false → insideOf s start end at kind ≡ false → exportedStep limit s start end at kind ≡ refuses 50 0
 unfolding exportedStep
-step-outside s start end at kind h =
-    by-case (ltb at start) (λ l. rw l) (λ l.
+step-outside limit s start end at kind g h =
+    rw g
+    (by-case (ltb at start) (λ l. rw l) (λ l.
     rw l
     (by-case (ltb 2 kind) (λ k. rw k) (λ k.
     rw k
-    (refused-outside (rulesOf kind) s at end
+    (refused-outside limit (rulesOf kind) s at end g
     (by-case (ltb end at) (λ o. no-order s at end (ltb-true end at o)) (λ o.
-    too-far s at end (ltb-false end at o) (leb-false end (length s) (rw (l, k, o) at h))))))))
+    too-far s at end (ltb-false end at o) (leb-false end (length s) (rw (l, k, o) at h)))))))))
 
 -- the number of an opened body's record is that of stepping in
-pub body-number : (s : List ℕ) (start end at : ℕ) → numberIn (bodyWords (exportedBody s start end at)) ≡ numberOf (stepIn s start end at)
+pub body-number : (limit : ℕ) (s : List ℕ) (start end at : ℕ) → numberIn (bodyWords (exportedBody limit s start end at)) ≡ numberOf (stepIn limit s start end at)
 unfolding exportedBody stepIn
-body-number s start end at = entered-number (valueIn s start end at)
+body-number limit s start end at = entered-number (valueIn limit s start end at)

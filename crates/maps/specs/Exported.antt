@@ -5,6 +5,7 @@ use mathlib.Core.List.{List}
 use lib.Dec.{ltb, eqb}
 use Rattle.numbers.specs.Outcome.{Outcome, pick, refuseIf, andThen}
 use Rattle.numbers.specs.Answers.{varUInt, varInt, int}
+use Rattle.framing.specs.Limits.{limited}
 use Rattle.framing.specs.Answers.{Annotated, readAnnotation}
 use Rattle.stepping.specs.Items.{Item}
 use Rattle.stepping.specs.Answers.{answerAt}
@@ -13,10 +14,10 @@ use Rattle.values.specs.Scalars.{valueIn}
 use Rattle.records.specs.FirstWords.{Entered, enter, Number, ofUnsigned, ofSigned, ofFixed}
 
 -- "Exported steps take slice, body start, body end, position" and the part's kind. 50: "parts or positions outside the slice, out of order, a part kind above
--- 2"; what start, the position and the kind do not settle of it, the step says.
-unfoldable pub exportedStep : List ℕ → ℕ → ℕ → ℕ → ℕ → Outcome Item
-exportedStep s start end position kind =
-    refuseIf (ltb position start) 50 0 (refuseIf (ltb 2 kind) 50 0 (answerAt (rulesOf kind) s position end))
+-- 2"; what start, the position and the kind do not settle of it, the step says. By the change request A.9 68 comes before 50.
+unfoldable pub exportedStep : ℕ → List ℕ → ℕ → ℕ → ℕ → ℕ → Outcome Item
+exportedStep limit s start end position kind =
+    limited limit (refuseIf (ltb position start) 50 0 (refuseIf (ltb 2 kind) 50 0 (answerAt limit (rulesOf kind) s position end)))
 
 -- ---- the annotation step: over the bytes start..end
 
@@ -25,8 +26,8 @@ exportedAnnotation s start end position = refuseIf (ltb position start) 50 0 (re
 
 -- ---- stepping in
 
-unfoldable pub exportedBody : List ℕ → ℕ → ℕ → ℕ → Outcome Entered
-exportedBody s start end position = andThen (valueIn s start end position) enter
+unfoldable pub exportedBody : ℕ → List ℕ → ℕ → ℕ → ℕ → Outcome Entered
+exportedBody limit s start end position = andThen (valueIn limit s start end position) enter
 
 -- ---- numbers: form 0 a VarUInt, 1 a VarInt, 2 an Int of the length given
 

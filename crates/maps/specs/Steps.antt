@@ -12,14 +12,15 @@ use Rattle.records.specs.Buffer.{bytesOf, recordSize, numberOf}
 use Rattle.maps.specs.Exported.{exportedStep}
 
 -- the answers of n calls of the exported step, each with the position that the one before left, up to the end or a refusal
-unfoldable pub exportedRun : ℕ → List ℕ → ℕ → ℕ → ℕ → ℕ → List (Outcome Item)
-exportedRun zero s start end position kind = []
-exportedRun (suc n) s start end position kind =
-    exportedStep s start end position kind ∷ onLeft (leftOf (exportedStep s start end position kind)) [] (λ at. exportedRun n s start end at kind)
+unfoldable pub exportedRun : ℕ → ℕ → List ℕ → ℕ → ℕ → ℕ → ℕ → List (Outcome Item)
+exportedRun limit zero s start end position kind = []
+exportedRun limit (suc n) s start end position kind =
+    exportedStep limit s start end position kind
+    ∷ onLeft (leftOf (exportedStep limit s start end position kind)) [] (λ at. exportedRun limit n s start end at kind)
 
 -- "as many steps as the lent buffer has room for"
-abbrev pub fullRun : List ℕ → List ℕ → ℕ → ℕ → ℕ → ℕ → List (Outcome Item)
-fullRun old s start end position kind = exportedRun (length old / recordSize) s start end position kind
+abbrev pub fullRun : ℕ → List ℕ → List ℕ → ℕ → ℕ → ℕ → ℕ → List (Outcome Item)
+fullRun limit old s start end position kind = exportedRun limit (length old / recordSize) s start end position kind
 
 -- the words of answers, one after the other
 abbrev pub allWords : List (Outcome Item) → List ℕ

@@ -17,12 +17,12 @@ use Rattle.maps.specs.Steps.{exportedRun, recordsIn}
 abbrev pub answerOf : Stepped → Outcome Item
 answerOf r = r .answer
 
--- The answers of an export of many steps, on a part that starts at or before the position and by a kind that there is, are the answers of a run of the theorems
--- on runs: as many calls of one step, each with the cursor that the call before left.
+-- The answers of an export of many steps, with any limit, on a part that starts at or before the position and by a kind that there is, are the answers of a
+-- run of the theorems on runs: as many calls of one step, each with the cursor that the call before left.
 abbrev pub RunsOfCalls : Type 0
 RunsOfCalls =
-    (s : List ℕ) (start end position kind n : ℕ) → start ≤ position → kind ≤ 2
-    → (rs : List Stepped) × Run (Answers (rulesOf kind) s) (cursor position end) rs × (map answerOf rs ≡ exportedRun n s start end position kind)
+    (limit : ℕ) (s : List ℕ) (start end position kind n : ℕ) → start ≤ position → kind ≤ 2
+    → (rs : List Stepped) × Run (Answers limit (rulesOf kind) s) (cursor position end) rs × (map answerOf rs ≡ exportedRun limit n s start end position kind)
 
 -- A.6, "The first eight words keep their meaning", of many steps: the record behind those of the answers before it begins with the bytes of the scope paper's
 -- words.

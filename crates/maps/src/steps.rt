@@ -1,9 +1,11 @@
 // The exported run of steps: as many in one call as the lent buffer has room for.
 ghost use mathlib.Core.Path.{_≡_};
+ghost use mathlib.Core.Bool.{false};
 ghost use Prim.Native.Nat.{_/_, _≤_};
 ghost use lib.ListN.{length};
 ghost use lib.Seq.{sets};
 ghost use Rattle.numbers.specs.Outcome.{gives};
+ghost use Rattle.framing.specs.Limits.{outOfRange};
 ghost use Rattle.framing.specs.Read.{spansOf};
 ghost use Rattle.stepping.specs.Answers.{answerAt};
 ghost use Rattle.stepping.specs.Names.{itemBy, answerFrom};
@@ -18,7 +20,10 @@ use framing::binary_buffer::begins_value;
 use framing::binary_buffer::short_value;
 use framing::encoded_value::EncodedValue;
 use framing::encoded_value::ShortValue;
+use framing::limits::out_of_range;
+use numbers::refusal::LIMIT_OUT_OF_RANGE;
 use numbers::refusal::RECORD_TOO_SHORT;
+use numbers::refusal::Refusal;
 use records::buffer::RECORD_SIZE;
 use records::buffer::RECORD_WORDS;
 use records::buffer::put_record;
@@ -61,21 +66,22 @@ fn long_step(
     id: usize,
     next: usize,
     end: usize,
+    limit: usize,
 ) -> RecordedStep
-    ensures { λ r. ⌜ r .words ≡ words (answerFrom rules (now (map .entry)) at end (record { value = id; next = next })) ⌝ }
-    ensures { λ r. ⌜ r .left ≡ leftOf (answerFrom rules (now (map .entry)) at end (record { value = id; next = next })) ⌝ }
+    ensures { λ r. ⌜ r .words ≡ words (answerFrom limit rules (now (map .entry)) at end (record { value = id; next = next })) ⌝ }
+    ensures { λ r. ⌜ r .left ≡ leftOf (answerFrom limit rules (now (map .entry)) at end (record { value = id; next = next })) ⌝ }
 {
-    let item = item_from(rules, map, at, id, next, end);
+    let item = item_from(rules, map, at, id, next, end, limit);
     let words = item_words(item);
     let left = left_by(item);
     RecordedStep { words, left }
 }
 
 // The step at `at`: the end and a short value are read here.
-fn step_words(rules: Rules, map: &[u8], at: usize, end: usize) -> RecordedStep
-    requires { ⌜ (at ≤ end) × (end ≤ length (now map)) ⌝ }
-    ensures { λ r. ⌜ r .words ≡ words (answerAt rules (now (map .entry)) at end) ⌝ }
-    ensures { λ r. ⌜ r .left ≡ leftOf (answerAt rules (now (map .entry)) at end) ⌝ }
+fn step_words(rules: Rules, map: &[u8], at: usize, end: usize, limit: usize) -> RecordedStep
+    requires { ⌜ (outOfRange limit ≡ false) × (at ≤ end) × (end ≤ length (now map)) ⌝ }
+    ensures { λ r. ⌜ r .words ≡ words (answerAt limit rules (now (map .entry)) at end) ⌝ }
+    ensures { λ r. ⌜ r .left ≡ leftOf (answerAt limit rules (now (map .entry)) at end) ⌝ }
 {
     if at == end {
         return RecordedStep {
@@ -87,13 +93,13 @@ fn step_words(rules: Rules, map: &[u8], at: usize, end: usize) -> RecordedStep
         Named::At { id, next } => {
             let byte = map[next];
             if !begins_value(byte) {
-                return long_step(rules, map, at, id, next, end);
+                return long_step(rules, map, at, id, next, end, limit);
             }
             match short_value(map, next, end) {
                 ShortValue::Value { body, end: past } => {
                     short_step(rules, at, id, bare_value(byte, next, body, past))
                 }
-                ShortValue::Other => long_step(rules, map, at, id, next, end),
+                ShortValue::Other => long_step(rules, map, at, id, next, end, limit),
             }
         }
         Named::Refused(refusal) => RecordedStep {
@@ -110,17 +116,24 @@ struct Steps {
 }
 
 // Puts the records of steps from `position` on, as many as there is room for.
-fn put_steps(rules: Rules, map: &[u8], position: usize, end: usize, out: &mut [u8]) -> Steps
-    requires { ⌜ (position ≤ end) × (end ≤ length (now map)) ⌝ }
-    ensures { λ r. ⌜ r .count ≡ length (stepRun (length (now (out .entry)) / recordSize) rules (now (map .entry)) position end) ⌝ }
-    ensures { λ r. ⌜ r .number ≡ lastNumber 0 (stepRun (length (now (out .entry)) / recordSize) rules (now (map .entry)) position end) ⌝ }
-    ensures { λ _. ⌜ now (out .exit) ≡ sets (now (out .entry)) 0 (bytesOf (allWords (stepRun (length (now (out .entry)) / recordSize) rules (now (map .entry)) position end))) ⌝ }
+fn put_steps(
+    rules: Rules,
+    map: &[u8],
+    position: usize,
+    end: usize,
+    limit: usize,
+    out: &mut [u8],
+) -> Steps
+    requires { ⌜ (outOfRange limit ≡ false) × (position ≤ end) × (end ≤ length (now map)) ⌝ }
+    ensures { λ r. ⌜ r .count ≡ length (stepRun limit (length (now (out .entry)) / recordSize) rules (now (map .entry)) position end) ⌝ }
+    ensures { λ r. ⌜ r .number ≡ lastNumber 0 (stepRun limit (length (now (out .entry)) / recordSize) rules (now (map .entry)) position end) ⌝ }
+    ensures { λ _. ⌜ now (out .exit) ≡ sets (now (out .entry)) 0 (bytesOf (allWords (stepRun limit (length (now (out .entry)) / recordSize) rules (now (map .entry)) position end))) ⌝ }
 {
     let room = out.len() / RECORD_SIZE;
     let mut at = position;
     let mut count = 0;
     while count < room {
-        let step = step_words(rules, map, at, end);
+        let step = step_words(rules, map, at, end, limit);
         let words = step.words;
         let left = step.left;
         let from = count * RECORD_SIZE;
@@ -147,22 +160,33 @@ pub extern "C" fn ion_map_steps(
     end: usize,
     position: usize,
     kind: u64,
+    limit: usize,
     out: &mut [u8],
     count: &mut u64,
 ) -> u64
-    ensures { λ r. ⌜ r ≡ returnedLast (fullRun (now (out .entry)) (now (map .entry)) start end position kind) (now (out .entry)) ⌝ }
-    ensures { λ _. ⌜ now (out .exit) ≡ recordsIn (fullRun (now (out .entry)) (now (map .entry)) start end position kind) (now (out .entry)) ⌝ }
-    ensures { λ _. ⌜ now (count .exit) ≡ countIn (fullRun (now (out .entry)) (now (map .entry)) start end position kind) (now (out .entry)) ⌝ }
+    ensures { λ r. ⌜ r ≡ returnedLast (fullRun limit (now (out .entry)) (now (map .entry)) start end position kind) (now (out .entry)) ⌝ }
+    ensures { λ _. ⌜ now (out .exit) ≡ recordsIn (fullRun limit (now (out .entry)) (now (map .entry)) start end position kind) (now (out .entry)) ⌝ }
+    ensures { λ _. ⌜ now (count .exit) ≡ countIn (fullRun limit (now (out .entry)) (now (map .entry)) start end position kind) (now (out .entry)) ⌝ }
 {
     if out.len() < RECORD_SIZE {
         *count = 0;
         return RECORD_TOO_SHORT;
     }
+    if out_of_range(limit) {
+        *count = 1;
+        return put_record(
+            out,
+            refused_words(Refusal {
+                number: LIMIT_OUT_OF_RANGE,
+                position: 0,
+            }),
+        );
+    }
     if !inside(map, start, end, position, kind) {
         *count = 1;
         return put_record(out, outside_words());
     }
-    let steps = put_steps(rules_of(kind), map, position, end, out);
+    let steps = put_steps(rules_of(kind), map, position, end, limit, out);
     *count = steps.count as u64;
     steps.number
 }

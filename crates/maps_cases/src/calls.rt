@@ -11,6 +11,7 @@ use maps::exports::ion_map_walked;
 use maps::steps::ion_map_steps;
 use questions::text::Line;
 use questions::text::number;
+use questions::text::number_or;
 use questions::text::part;
 use questions::text::word;
 use records::buffer::RECORD_SIZE;
@@ -18,6 +19,11 @@ use records::buffer::RECORD_WORDS;
 
 // The bytes of a word.
 const WORD_SIZE: usize = RECORD_SIZE / RECORD_WORDS;
+
+// The limits where a line says none.
+const ANNOTATION_LIMIT: usize = 255;
+
+const DEPTH_LIMIT: usize = 32;
 
 // What a byte of a buffer is before the call, and a word of such bytes.
 const FILL: u8 = 0xAA;
@@ -31,7 +37,7 @@ fn room() -> [u8; 1024]
     [FILL; 1024]
 }
 
-// The arguments of a call are the words of its line after the bytes, in the header's order, the buffer's length last.
+// The arguments of a call are the words of its line after the bytes, in the header's order, then the buffer's length, and then the limits, where it has any.
 fn argument(line: &[u8], n: usize) -> usize {
     number(word(line, n))
 }
@@ -74,6 +80,7 @@ fn steps(
         end,
         position,
         argument(line, 5) as u64,
+        number_or(line, 7, ANNOTATION_LIMIT),
         out,
         &mut count,
     );
@@ -88,7 +95,15 @@ fn called(line: &[u8], map: &[u8], out: &mut [u8]) -> Line {
     let position = argument(line, 4);
     if check::same(asked, b"step") {
         let kind = argument(line, 5);
-        return Line::new().number(ion_map_step(map, start, end, position, kind as u64, out));
+        return Line::new().number(ion_map_step(
+            map,
+            start,
+            end,
+            position,
+            kind as u64,
+            number_or(line, 7, ANNOTATION_LIMIT),
+            out,
+        ));
     }
     if check::same(asked, b"steps") {
         return steps(line, map, start, end, position, out);
@@ -97,10 +112,24 @@ fn called(line: &[u8], map: &[u8], out: &mut [u8]) -> Line {
         return Line::new().number(ion_map_annotation(map, start, end, position, out));
     }
     if check::same(asked, b"step_in") {
-        return Line::new().number(ion_map_step_in(map, start, end, position, out));
+        return Line::new().number(ion_map_step_in(
+            map,
+            start,
+            end,
+            position,
+            number_or(line, 6, ANNOTATION_LIMIT),
+            out,
+        ));
     }
     if check::same(asked, b"scalar") {
-        return Line::new().number(ion_map_scalar(map, start, end, position, out));
+        return Line::new().number(ion_map_scalar(
+            map,
+            start,
+            end,
+            position,
+            number_or(line, 6, ANNOTATION_LIMIT),
+            out,
+        ));
     }
     if check::same(asked, b"number") {
         let form = argument(line, 5);
@@ -117,7 +146,12 @@ fn called(line: &[u8], map: &[u8], out: &mut [u8]) -> Line {
     }
     if check::same(asked, b"walked") {
         let most = start;
-        return Line::new().number(ion_map_walked(map, most as u64));
+        return Line::new().number(ion_map_walked(
+            map,
+            most as u64,
+            number_or(line, 3, ANNOTATION_LIMIT),
+            number_or(line, 4, DEPTH_LIMIT),
+        ));
     }
     Line::new().word(b"no such function")
 }

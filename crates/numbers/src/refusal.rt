@@ -39,7 +39,7 @@ pub const NO_ANNOTATIONS: u64 = 23;
 pub const ANNOTATIONS_TOO_LONG: u64 = 24;
 // A wrapper with no room for a value.
 pub const NO_ROOM_FOR_VALUE: u64 = 25;
-// Annotations of over 255 bytes.
+// Annotations of more bytes than the limit.
 pub const TOO_MANY_ANNOTATIONS: u64 = 26;
 // A wrapper in a wrapper.
 pub const WRAPPER_IN_WRAPPER: u64 = 27;
@@ -77,3 +77,5 @@ pub const RECORD_TOO_SHORT: u64 = 51;
 pub const NOT_A_CONTAINER: u64 = 52;
 // More input than `mapspans` takes.
 pub const INPUT_TOO_LONG: u64 = 54;
+// A limit outside its range.
+pub const LIMIT_OUT_OF_RANGE: u64 = 68;

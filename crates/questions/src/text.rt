@@ -65,6 +65,17 @@ fn digit(glyph: u8) -> u8 {
     }
 }
 
+// The number that a line has behind n words, and `otherwise` where its question ends before it.
+pub fn number_or(line: &[u8], n: usize, otherwise: usize) -> usize {
+    let question = part(line, 0, find(line, 0, b'='));
+    let said = word(question, n);
+    if said.len() == 0 {
+        otherwise
+    } else {
+        number(said)
+    }
+}
+
 // Puts the bytes that a word spells in hexadecimal at the start of `bytes`, and answers how many there are.
 pub fn hex(word: &[u8], bytes: &mut [u8]) -> usize {
     let mut n = 0;

@@ -48,9 +48,9 @@ unfolding numberIn
 value-number s (gives v) = scalar-number v (scalarOf s v)
 value-number s (refuses n p) = refl
 
-pub reading-number : (s : List ℕ) (start end at : ℕ) → numberIn (readingWords (readWithValue s start end at)) ≡ numberOf (readScalar s start end at)
+pub reading-number : (limit : ℕ) (s : List ℕ) (start end at : ℕ) → numberIn (readingWords (readWithValue limit s start end at)) ≡ numberOf (readScalar limit s start end at)
 unfolding readWithValue readScalar
-reading-number s start end at = value-number s (valueIn s start end at)
+reading-number limit s start end at = value-number s (valueIn limit s start end at)
 
 pub number-number : (at : ℕ) (o : Outcome Number) → numberIn (numberWords at o) ≡ numberOf o
 unfolding numberIn

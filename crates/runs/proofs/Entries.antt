@@ -196,21 +196,21 @@ module _ {M : Type 1} (𝓤 : URA M) (H : Heap 𝓤) (𝓜 : Model 𝓤 H) (𝓖
       machine.answered 𝓤 H 𝓜 𝓖 annotation.ended annotation-symbol.routine (annotation.clauses 𝓤 H (𝓖 .A) (𝓜 .mem) (real 𝓤 H 𝓜 .run)) (annotation-met.met 𝓤 H 𝓜 𝓖 (real 𝓤 H 𝓜)) κs tt annotation-laws.lowers annotationRead annotation-of annotation-made annotation-read annotation-one
       (s, (at, (end, tt))) tt (readAnnotation (now s) at end) (id⊢ 𝓤 (emp 𝓤)) (λ x ws. id⊢ 𝓤 (fact 𝓤 (annotationRead x ≡ readAnnotation (now s) at end)))
 
-  pub entering-answers : (s : RefT (List ℕ)) (lo hi at : ℕ) → Answered 𝓤 H 𝓜 𝓖 entering.signature entering-symbol.routine κs tt body-laws.lowers (s, (lo, (hi, (at, tt)))) (λ x. bodyRead x ≡ stepIn (now s) lo hi at)
-  entering-answers s lo hi at =
+  pub entering-answers : (limit : ℕ) (s : RefT (List ℕ)) (lo hi at : ℕ) → Answered 𝓤 H 𝓜 𝓖 entering.signature entering-symbol.routine κs tt body-laws.lowers (s, (lo, (hi, (at, (limit, tt))))) (λ x. bodyRead x ≡ stepIn limit (now s) lo hi at)
+  entering-answers limit s lo hi at =
       machine.answered 𝓤 H 𝓜 𝓖 entering.ended entering-symbol.routine (entering.clauses 𝓤 H (𝓖 .A) (𝓜 .mem) (real 𝓤 H 𝓜 .run)) (entering-met.met 𝓤 H 𝓜 𝓖 (real 𝓤 H 𝓜)) κs tt body-laws.lowers bodyRead body-of body-made body-read body-one
-      (s, (lo, (hi, (at, tt)))) tt (stepIn (now s) lo hi at) (id⊢ 𝓤 (emp 𝓤)) (λ x ws. id⊢ 𝓤 (fact 𝓤 (bodyRead x ≡ stepIn (now s) lo hi at)))
+      (s, (lo, (hi, (at, (limit, tt))))) tt (stepIn limit (now s) lo hi at) (id⊢ 𝓤 (emp 𝓤)) (λ x ws. id⊢ 𝓤 (fact 𝓤 (bodyRead x ≡ stepIn limit (now s) lo hi at)))
 
-  pub reading-answers : (s : RefT (List ℕ)) (lo hi at : ℕ) → Answered 𝓤 H 𝓜 𝓖 reading.signature reading-symbol.routine κs tt scalar-laws.lowers (s, (lo, (hi, (at, tt)))) (λ x. scalarRead x ≡ readScalar (now s) lo hi at)
-  reading-answers s lo hi at =
+  pub reading-answers : (limit : ℕ) (s : RefT (List ℕ)) (lo hi at : ℕ) → Answered 𝓤 H 𝓜 𝓖 reading.signature reading-symbol.routine κs tt scalar-laws.lowers (s, (lo, (hi, (at, (limit, tt))))) (λ x. scalarRead x ≡ readScalar limit (now s) lo hi at)
+  reading-answers limit s lo hi at =
       machine.answered 𝓤 H 𝓜 𝓖 reading.ended reading-symbol.routine (reading.clauses 𝓤 H (𝓖 .A) (𝓜 .mem) (real 𝓤 H 𝓜 .run)) (reading-met.met 𝓤 H 𝓜 𝓖 (real 𝓤 H 𝓜)) κs tt scalar-laws.lowers scalarRead scalar-of scalar-made scalar-read scalar-one
-      (s, (lo, (hi, (at, tt)))) tt (readScalar (now s) lo hi at) (id⊢ 𝓤 (emp 𝓤)) (λ x ws. id⊢ 𝓤 (fact 𝓤 (scalarRead x ≡ readScalar (now s) lo hi at)))
+      (s, (lo, (hi, (at, (limit, tt))))) tt (readScalar limit (now s) lo hi at) (id⊢ 𝓤 (emp 𝓤)) (λ x ws. id⊢ 𝓤 (fact 𝓤 (scalarRead x ≡ readScalar limit (now s) lo hi at)))
 
   pub annotates : (s : RefT (List ℕ)) (end at : ℕ) (o : Outcome Annotated) → Annotates 𝓤 H 𝓜 𝓖 κs s end at o → o ≡ readAnnotation (now s) at end
   annotates s end at o p = sym (p .2) ∙ annotation-answers s at end .returned (p .0) (p .1)
 
-  pub enters : (s : RefT (List ℕ)) (lo hi at : ℕ) (o : Outcome Opened) → Enters 𝓤 H 𝓜 𝓖 κs s lo hi at o → o ≡ stepIn (now s) lo hi at
-  enters s lo hi at o p = sym (p .2) ∙ entering-answers s lo hi at .returned (p .0) (p .1)
+  pub enters : (limit : ℕ) (s : RefT (List ℕ)) (lo hi at : ℕ) (o : Outcome Opened) → Enters 𝓤 H 𝓜 𝓖 κs limit s lo hi at o → o ≡ stepIn limit (now s) lo hi at
+  enters limit s lo hi at o p = sym (p .2) ∙ entering-answers limit s lo hi at .returned (p .0) (p .1)
 
-  pub reads : (s : RefT (List ℕ)) (lo hi at : ℕ) (o : Outcome Scalar) → Reads 𝓤 H 𝓜 𝓖 κs s lo hi at o → o ≡ readScalar (now s) lo hi at
-  reads s lo hi at o p = sym (p .2) ∙ reading-answers s lo hi at .returned (p .0) (p .1)
+  pub reads : (limit : ℕ) (s : RefT (List ℕ)) (lo hi at : ℕ) (o : Outcome Scalar) → Reads 𝓤 H 𝓜 𝓖 κs limit s lo hi at o → o ≡ readScalar limit (now s) lo hi at
+  reads limit s lo hi at o p = sym (p .2) ∙ reading-answers limit s lo hi at .returned (p .0) (p .1)

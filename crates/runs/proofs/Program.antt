@@ -140,7 +140,7 @@ map-handed {ℓ} : {A : Rules → Cursor → Stepped → Type ℓ} {B : Rules �
 map-handed f {rules = rules} h =
     record { part = map-part f (h .part); calls = h .calls; run = map-run (f rules) (h .run); among = h .among }
 
-map-body {ℓ} : {A : Rules → Cursor → Stepped → Type ℓ} {B : Rules → Cursor → Stepped → Type 0} → ((rules : Rules) (c : Cursor) (r : Stepped) → A rules c r → B rules c r) → {s : List ℕ} {lo₀ hi₀ b e : ℕ} → ReachedBody s A lo₀ hi₀ b e → ReachedBody s B lo₀ hi₀ b e
+map-body {ℓ} : {A : Rules → Cursor → Stepped → Type ℓ} {B : Rules → Cursor → Stepped → Type 0} → ((rules : Rules) (c : Cursor) (r : Stepped) → A rules c r → B rules c r) → {limit : ℕ} {s : List ℕ} {lo₀ hi₀ b e : ℕ} → ReachedBody limit s A lo₀ hi₀ b e → ReachedBody limit s B lo₀ hi₀ b e
 map-body f (of-value handed of) = of-value (map-handed f handed) of
 map-body f (of-pad {rules} part run among) = of-pad (map-part f part) (map-run (f rules) run) among
 
@@ -154,51 +154,51 @@ either f g (inr b) = inr (g b)
 
 module _ {M : Type 1} (𝓤 : URA M) (H : Heap 𝓤) (𝓜 : Model 𝓤 H) (𝓖 : GhostRules 𝓤 H) (κs : Lfts 1) where
   -- the machine's answers to the three methods, and that each call ends: from their theorems
-  in-stream-answers : (s : RefT (List ℕ)) (c : Cursor) → Answered 𝓤 H 𝓜 𝓖 in-stream.signature in-stream-symbol.routine κs tt lowers (c, (s, tt)) (λ x. stepRead x ≡ stepOf Stream (now s) c)
-  in-stream-answers s c =
+  in-stream-answers : (limit : ℕ) (s : RefT (List ℕ)) (c : Cursor) → Answered 𝓤 H 𝓜 𝓖 in-stream.signature in-stream-symbol.routine κs tt lowers (c, (s, (limit, tt))) (λ x. stepRead x ≡ stepOf limit Stream (now s) c)
+  in-stream-answers limit s c =
       machine.answered 𝓤 H 𝓜 𝓖 in-stream.ended in-stream-symbol.routine (in-stream.clauses 𝓤 H (𝓖 .A) (𝓜 .mem) (real 𝓤 H 𝓜 .run)) (in-stream-met.met 𝓤 H 𝓜 𝓖 (real 𝓤 H 𝓜)) κs tt lowers stepRead made read-made made-read one-value
-      (c, (s, tt)) tt (stepOf Stream (now s) c) (id⊢ 𝓤 (emp 𝓤)) (λ x ws. id⊢ 𝓤 (fact 𝓤 (stepRead x ≡ stepOf Stream (now s) c)))
+      (c, (s, (limit, tt))) tt (stepOf limit Stream (now s) c) (id⊢ 𝓤 (emp 𝓤)) (λ x ws. id⊢ 𝓤 (fact 𝓤 (stepRead x ≡ stepOf limit Stream (now s) c)))
 
-  in-sequence-answers : (s : RefT (List ℕ)) (c : Cursor) → Answered 𝓤 H 𝓜 𝓖 in-sequence.signature in-sequence-symbol.routine κs tt lowers (c, (s, tt)) (λ x. stepRead x ≡ stepOf Sequence (now s) c)
-  in-sequence-answers s c =
+  in-sequence-answers : (limit : ℕ) (s : RefT (List ℕ)) (c : Cursor) → Answered 𝓤 H 𝓜 𝓖 in-sequence.signature in-sequence-symbol.routine κs tt lowers (c, (s, (limit, tt))) (λ x. stepRead x ≡ stepOf limit Sequence (now s) c)
+  in-sequence-answers limit s c =
       machine.answered 𝓤 H 𝓜 𝓖 in-sequence.ended in-sequence-symbol.routine (in-sequence.clauses 𝓤 H (𝓖 .A) (𝓜 .mem) (real 𝓤 H 𝓜 .run)) (in-sequence-met.met 𝓤 H 𝓜 𝓖 (real 𝓤 H 𝓜)) κs tt lowers stepRead made read-made made-read one-value
-      (c, (s, tt)) tt (stepOf Sequence (now s) c) (id⊢ 𝓤 (emp 𝓤)) (λ x ws. id⊢ 𝓤 (fact 𝓤 (stepRead x ≡ stepOf Sequence (now s) c)))
+      (c, (s, (limit, tt))) tt (stepOf limit Sequence (now s) c) (id⊢ 𝓤 (emp 𝓤)) (λ x ws. id⊢ 𝓤 (fact 𝓤 (stepRead x ≡ stepOf limit Sequence (now s) c)))
 
-  in-struct-answers : (s : RefT (List ℕ)) (c : Cursor) → Answered 𝓤 H 𝓜 𝓖 in-struct.signature in-struct-symbol.routine κs tt lowers (c, (s, tt)) (λ x. stepRead x ≡ stepOf Fields (now s) c)
-  in-struct-answers s c =
+  in-struct-answers : (limit : ℕ) (s : RefT (List ℕ)) (c : Cursor) → Answered 𝓤 H 𝓜 𝓖 in-struct.signature in-struct-symbol.routine κs tt lowers (c, (s, (limit, tt))) (λ x. stepRead x ≡ stepOf limit Fields (now s) c)
+  in-struct-answers limit s c =
       machine.answered 𝓤 H 𝓜 𝓖 in-struct.ended in-struct-symbol.routine (in-struct.clauses 𝓤 H (𝓖 .A) (𝓜 .mem) (real 𝓤 H 𝓜 .run)) (in-struct-met.met 𝓤 H 𝓜 𝓖 (real 𝓤 H 𝓜)) κs tt lowers stepRead made read-made made-read one-value
-      (c, (s, tt)) tt (stepOf Fields (now s) c) (id⊢ 𝓤 (emp 𝓤)) (λ x ws. id⊢ 𝓤 (fact 𝓤 (stepRead x ≡ stepOf Fields (now s) c)))
+      (c, (s, (limit, tt))) tt (stepOf limit Fields (now s) c) (id⊢ 𝓤 (emp 𝓤)) (λ x ws. id⊢ 𝓤 (fact 𝓤 (stepRead x ≡ stepOf limit Fields (now s) c)))
 
   -- each answer of the program is the one that the rules define
-  pub answers : (rules : Rules) (s : RefT (List ℕ)) (c : Cursor) (r : Stepped) → Program 𝓤 H 𝓜 𝓖 κs rules s c r → Answers rules (now s) c r
-  answers Stream s c r p = sym (p .2) ∙ in-stream-answers s c .returned (p .0) (p .1)
-  answers Sequence s c r p = sym (p .2) ∙ in-sequence-answers s c .returned (p .0) (p .1)
-  answers Fields s c r p = sym (p .2) ∙ in-struct-answers s c .returned (p .0) (p .1)
+  pub answers : (limit : ℕ) (rules : Rules) (s : RefT (List ℕ)) (c : Cursor) (r : Stepped) → Program 𝓤 H 𝓜 𝓖 κs limit rules s c r → Answers limit rules (now s) c r
+  answers limit Stream s c r p = sym (p .2) ∙ in-stream-answers limit s c .returned (p .0) (p .1)
+  answers limit Sequence s c r p = sym (p .2) ∙ in-sequence-answers limit s c .returned (p .0) (p .1)
+  answers limit Fields s c r p = sym (p .2) ∙ in-struct-answers limit s c .returned (p .0) (p .1)
 
   -- and each call ends with it
-  step-ends : (rules : Rules) (s : RefT (List ℕ)) (c : Cursor) → StepEnds 𝓤 H 𝓜 𝓖 κs rules s c
-  step-ends Stream s c = in-stream-answers s c .ends
-  step-ends Sequence s c = in-sequence-answers s c .ends
-  step-ends Fields s c = in-struct-answers s c .ends
+  step-ends : (limit : ℕ) (rules : Rules) (s : RefT (List ℕ)) (c : Cursor) → StepEnds 𝓤 H 𝓜 𝓖 κs limit rules s c
+  step-ends limit Stream s c = in-stream-answers limit s c .ends
+  step-ends limit Sequence s c = in-sequence-answers limit s c .ends
+  step-ends limit Fields s c = in-struct-answers limit s c .ends
 
   pub program-ends : ProgramEnds 𝓤 H 𝓜 𝓖 κs
   program-ends =
       record {
         steps = step-ends;
         annotation = λ s at end. annotation-answers 𝓤 H 𝓜 𝓖 κs s at end .ends;
-        entering = λ s lo hi at. entering-answers 𝓤 H 𝓜 𝓖 κs s lo hi at .ends;
-        reading = λ s lo hi at. reading-answers 𝓤 H 𝓜 𝓖 κs s lo hi at .ends;
+        entering = λ limit s lo hi at. entering-answers 𝓤 H 𝓜 𝓖 κs limit s lo hi at .ends;
+        reading = λ limit s lo hi at. reading-answers 𝓤 H 𝓜 𝓖 κs limit s lo hi at .ends;
       }
 
   pub program-tiling : ProgramTiling 𝓤 H 𝓜 𝓖 κs
-  program-tiling rules s lo hi rs run = tiling rules (now s) lo hi rs (map-run (answers rules s) run)
+  program-tiling limit rules s lo hi rs run = tiling limit rules (now s) lo hi rs (map-run (answers limit rules s) run)
 
-  bytes-read : (s : RefT (List ℕ)) (lo hi at : ℕ) (r : List ℕ) → BytesRead 𝓤 H 𝓜 𝓖 κs s lo hi at r → r ≡ scalarPart (now s) lo hi at
+  bytes-read : (limit : ℕ) (s : RefT (List ℕ)) (lo hi at : ℕ) (r : List ℕ) → BytesRead 𝓤 H 𝓜 𝓖 κs limit s lo hi at r → r ≡ scalarPart limit (now s) lo hi at
   unfolding scalarPart
-  bytes-read s lo hi at r p = p .2 ∙ ap (partOf (now s)) (reads 𝓤 H 𝓜 𝓖 κs s lo hi at (p .0) (p .1))
+  bytes-read limit s lo hi at r p = p .2 ∙ ap (partOf (now s)) (reads 𝓤 H 𝓜 𝓖 κs limit s lo hi at (p .0) (p .1))
 
   pub program-overwriting : ProgramOverwriting 𝓤 H 𝓜 𝓖 κs
-  program-overwriting s s' lo₀ hi₀ b e body agree =
+  program-overwriting limit s s' lo₀ hi₀ b e body agree =
       record {
         steps = λ rules lo hi pt out rs rs' c. same .steps rules lo hi (part pt) out rs rs' (calls c);
         pads = λ rules lo hi pt out rs rs' c. same .pads rules lo hi (part pt) out rs rs' (calls c);
@@ -206,29 +206,29 @@ module _ {M : Type 1} (𝓤 : URA M) (H : Heap 𝓤) (𝓜 : Model 𝓤 H) (𝓖
             same .annotations rules lo hi v (valued h) rs rs' n
             (map-annotations (annotates 𝓤 H 𝓜 𝓖 κs s (v .descriptor)) run) (map-annotations (annotates 𝓤 H 𝓜 𝓖 κs s' (v .descriptor)) run');
         enterings = λ rules lo hi v h at entry r r' a a'.
-            same .enterings rules lo hi v (valued h) at entry r r' (enters 𝓤 H 𝓜 𝓖 κs s lo hi at r a) (enters 𝓤 H 𝓜 𝓖 κs s' lo hi at r' a');
+            same .enterings rules lo hi v (valued h) at entry r r' (enters 𝓤 H 𝓜 𝓖 κs limit s lo hi at r a) (enters 𝓤 H 𝓜 𝓖 κs limit s' lo hi at r' a');
         readings = λ rules lo hi v h other at entry r r' a a'.
-            same .readings rules lo hi v (valued h) other at entry r r' (reads 𝓤 H 𝓜 𝓖 κs s lo hi at r a) (reads 𝓤 H 𝓜 𝓖 κs s' lo hi at r' a');
+            same .readings rules lo hi v (valued h) other at entry r r' (reads 𝓤 H 𝓜 𝓖 κs limit s lo hi at r a) (reads 𝓤 H 𝓜 𝓖 κs limit s' lo hi at r' a');
         parts = λ rules lo hi v h other at entry r r' a a'.
-            same .parts rules lo hi v (valued h) other at entry r r' (bytes-read s lo hi at r a) (bytes-read s' lo hi at r' a');
+            same .parts rules lo hi v (valued h) other at entry r r' (bytes-read limit s lo hi at r a) (bytes-read limit s' lo hi at r' a');
         owner = λ rules lo hi pt i v k x y rs rs' c. same .owner rules lo hi (part pt) i v k x y rs rs' (calls c);
         pad = λ rules lo hi pt p x y rs rs' c. same .pad rules lo hi (part pt) p x y rs rs' (calls c);
       }
     where
-      on : (rules : Rules) (c : Cursor) (r : Stepped) → Program 𝓤 H 𝓜 𝓖 κs rules s c r → Answers rules (now s) c r
-      on rules = answers rules s
+      on : (rules : Rules) (c : Cursor) (r : Stepped) → Program 𝓤 H 𝓜 𝓖 κs limit rules s c r → Answers limit rules (now s) c r
+      on rules = answers limit rules s
 
-      on' : (rules : Rules) (c : Cursor) (r : Stepped) → Program 𝓤 H 𝓜 𝓖 κs rules s' c r → Answers rules (now s') c r
-      on' rules = answers rules s'
+      on' : (rules : Rules) (c : Cursor) (r : Stepped) → Program 𝓤 H 𝓜 𝓖 κs limit rules s' c r → Answers limit rules (now s') c r
+      on' rules = answers limit rules s'
 
-      same : SameAnswers (ByRules (now s)) (ByRules (now s')) lo₀ hi₀ b e
-      same = overwriting (now s) (now s') lo₀ hi₀ b e (map-body on body) agree
+      same : SameAnswers (ByRules limit (now s)) (ByRules limit (now s')) lo₀ hi₀ b e
+      same = overwriting limit (now s) (now s') lo₀ hi₀ b e (map-body on body) agree
 
-      part : {rules : Rules} {lo hi : ℕ} → EitherPart (ByProgram 𝓤 H 𝓜 𝓖 κs s) (ByProgram 𝓤 H 𝓜 𝓖 κs s') lo₀ hi₀ b e rules lo hi → EitherPart (ByRules (now s)) (ByRules (now s')) lo₀ hi₀ b e rules lo hi
+      part : {rules : Rules} {lo hi : ℕ} → EitherPart (ByProgram 𝓤 H 𝓜 𝓖 κs limit s) (ByProgram 𝓤 H 𝓜 𝓖 κs limit s') lo₀ hi₀ b e rules lo hi → EitherPart (ByRules limit (now s)) (ByRules limit (now s')) lo₀ hi₀ b e rules lo hi
       part pt = either (map-part on) (map-part on') pt
 
-      valued : {rules : Rules} {lo hi : ℕ} {v : Spans} → EitherValue (ByProgram 𝓤 H 𝓜 𝓖 κs s) (ByProgram 𝓤 H 𝓜 𝓖 κs s') lo₀ hi₀ b e rules lo hi v → EitherValue (ByRules (now s)) (ByRules (now s')) lo₀ hi₀ b e rules lo hi v
+      valued : {rules : Rules} {lo hi : ℕ} {v : Spans} → EitherValue (ByProgram 𝓤 H 𝓜 𝓖 κs limit s) (ByProgram 𝓤 H 𝓜 𝓖 κs limit s') lo₀ hi₀ b e rules lo hi v → EitherValue (ByRules limit (now s)) (ByRules limit (now s')) lo₀ hi₀ b e rules lo hi v
       valued h = record { item = h .item; handed = either (map-handed on) (map-handed on') (h .handed); is = h .is; outside = h .outside }
 
-      calls : {rules : Rules} {lo hi : ℕ} {rs rs' : List Stepped} → Calls (ByProgram 𝓤 H 𝓜 𝓖 κs s) (ByProgram 𝓤 H 𝓜 𝓖 κs s') lo₀ hi₀ b e rules lo hi rs rs' → Calls (ByRules (now s)) (ByRules (now s')) lo₀ hi₀ b e rules lo hi rs rs'
+      calls : {rules : Rules} {lo hi : ℕ} {rs rs' : List Stepped} → Calls (ByProgram 𝓤 H 𝓜 𝓖 κs limit s) (ByProgram 𝓤 H 𝓜 𝓖 κs limit s') lo₀ hi₀ b e rules lo hi rs rs' → Calls (ByRules limit (now s)) (ByRules limit (now s')) lo₀ hi₀ b e rules lo hi rs rs'
       calls {rules} c = record { many = c .many; run = map-run (on rules) (c .run); run' = map-run (on' rules) (c .run') }

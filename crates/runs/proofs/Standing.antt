@@ -16,7 +16,7 @@ use Rattle.runs.specs.Reached.{ValueOf, a-value, a-field, Part, the-stre
 use Rattle.stepping.specs.declared.cursor.Cursor.{Cursor}
 use Rattle.stepping.specs.declared.cursor.Rules.{Rules}
 use Rattle.stepping.specs.declared.cursor.Rules.the-variants.{Stream, Sequence}
-use Rattle.stepping.proofs.PadSkipping.{Skipping, at-end, at-pad, at-item, at-refusal, Finds, unfit, fit, finds}
+use Rattle.stepping.proofs.PadSkipping.{Skipping, at-end, at-pad, at-item, at-refusal, Finds, unranged, unfit, fit, finds}
 use Rattle.stepping.proofs.Places.{ValueIn, a-marker, a-value as value-in, a-field as field-in, TileIn, skip-in, hand-in, tile-in}
 use Rattle.values.specs.Scalars.{isContainer, bodyRules}
 use Rattle.runs.proofs.Nest as nest
@@ -47,10 +47,10 @@ value-place a-value = refl
 value-place a-field = refl
 
 -- in a part of these rules that ends at hi, a tile of the map s with this place begins at p
-pub record Standing (s : List ℕ) (rules : Rules) (hi p : ℕ) (x : Place) : Type 0 where
+pub record Standing (limit : ℕ) (s : List ℕ) (rules : Rules) (hi p : ℕ) (x : Place) : Type 0 where
   pub tile : Tile
   pub before : p < hi
-  pub is : tileAt rules s p hi ≡ gives tile
+  pub is : tileAt limit rules s p hi ≡ gives tile
   pub place : x ≡ placeOf tile
 
 -- its body begins past p, and ends in the part
@@ -63,53 +63,54 @@ in-place (hand-in (a-marker l m)) = (l, omega arith, m)
 in-place (hand-in (value-in v)) = value-in-place v
 in-place (hand-in (field-in v)) = value-in-place v
 
-pub order : (s : List ℕ) (rules : Rules) (hi p : ℕ) (x : Place) → Standing s rules hi p x → (p < x .body) × (x .body ≤ x .end) × (x .end ≤ hi)
-order s rules hi p x t =
-    subst (λ (y : Place). (p < y .body) × (y .body ≤ y .end) × (y .end ≤ hi)) (sym (t .place)) (in-place (tile-in rules s p hi (t .is)))
+pub order : (limit : ℕ) (s : List ℕ) (rules : Rules) (hi p : ℕ) (x : Place) → Standing limit s rules hi p x → (p < x .body) × (x .body ≤ x .end) × (x .end ≤ hi)
+order limit s rules hi p x t =
+    subst (λ (y : Place). (p < y .body) × (y .body ≤ y .end) × (y .end ≤ hi)) (sym (t .place)) (in-place (tile-in limit rules s p hi (t .is)))
 
-pub one : (s : List ℕ) (rules : Rules) (hi p : ℕ) (x y : Place) → Standing s rules hi p x → Standing s rules hi p y → x ≡ y
-one s rules hi p x y t u =
+pub one : (limit : ℕ) (s : List ℕ) (rules : Rules) (hi p : ℕ) (x y : Place) → Standing limit s rules hi p x → Standing limit s rules hi p y → x ≡ y
+one limit s rules hi p x y t u =
     let q : gives (t .tile) ≡ gives (u .tile) = sym (t .is) ∙ u .is in
     let r : t .tile ≡ u .tile = cc in
     t .place ∙ ap placeOf r ∙ sym (u .place)
 
-stands : (s : List ℕ) (rules : Rules) (hi p : ℕ) (t : Tile) → p < hi → tileAt rules s p hi ≡ gives t → Standing s rules hi p (placeOf t)
-stands s rules hi p t h q = record { tile = t; before = h; is = q; place = refl }
+stands : (limit : ℕ) (s : List ℕ) (rules : Rules) (hi p : ℕ) (t : Tile) → p < hi → tileAt limit rules s p hi ≡ gives t → Standing limit s rules hi p (placeOf t)
+stands limit s rules hi p t h q = record { tile = t; before = h; is = q; place = refl }
 
 -- ---- where an answer leads
 
-module _ (s : List ℕ) where
+module _ (limit : ℕ) (s : List ℕ) where
   abbrev pub To : Rules → ℕ → ℕ → ℕ → Type 0
-  To = From (Standing s)
+  To = From (Standing limit s)
 
   -- an answer from p: an item that stands at a place led to, the end, or a refusal
   pub data Hits (rules : Rules) (hi p : ℕ) : Outcome Item → Type 0 where
-    an-item : {a : ℕ} {i : Item} → To rules hi p a → a < hi → tileAt rules s a hi ≡ gives (hand i) → Hits rules hi p (gives i)
+    an-item : {a : ℕ} {i : Item} → To rules hi p a → a < hi → tileAt limit rules s a hi ≡ gives (hand i) → Hits rules hi p (gives i)
     the-end : To rules hi p hi → Hits rules hi p (gives (finish hi))
     a-refusal : {n q : ℕ} → Hits rules hi p (refuses n q)
 
-  past-pad : {rules : Rules} {hi p b e : ℕ} {o : Outcome Item} → Standing s rules hi p (closedPlace b e) → Hits rules hi e o → Hits rules hi p o
+  past-pad : {rules : Rules} {hi p b e : ℕ} {o : Outcome Item} → Standing limit s rules hi p (closedPlace b e) → Hits rules hi e o → Hits rules hi p o
   past-pad t (an-item f l q) = an-item (on t f) l q
   past-pad t (the-end f) = the-end (on t f)
   past-pad t a-refusal = a-refusal
 
-  skipping-hits : {rules : Rules} {hi p : ℕ} {f : Found} → Skipping rules s hi p f → Hits rules hi p (f .answer)
+  skipping-hits : {rules : Rules} {hi p : ℕ} {f : Found} → Skipping limit rules s hi p f → Hits rules hi p (f .answer)
   skipping-hits at-end = the-end stay
-  skipping-hits {rules} {hi} (at-pad {at} {b} {e} l h d) = past-pad (stands s rules hi at (skip b e) l h) (skipping-hits d)
+  skipping-hits {rules} {hi} (at-pad {at} {b} {e} l h d) = past-pad (stands limit s rules hi at (skip b e) l h) (skipping-hits d)
   skipping-hits (at-item l h) = an-item stay l h
   skipping-hits (at-refusal l h) = a-refusal
 
   -- and the cursor that it leaves is led to
   leads : {rules : Rules} {hi p : ℕ} {o : Outcome Item} → Hits rules hi p o → To rules hi p (after (cursor p hi) o .at)
   leads {rules} {hi} {p} (an-item {a} {i} f l q) =
-      nest.join (Standing s) f
-      (on (stands s rules hi a (hand i) l q) (subst (λ (z : ℕ). To rules hi z (itemEnd i)) (sym (place-end i)) stay))
+      nest.join (Standing limit s) f
+      (on (stands limit s rules hi a (hand i) l q) (subst (λ (z : ℕ). To rules hi z (itemEnd i)) (sym (place-end i)) stay))
   leads (the-end f) = f
   leads a-refusal = stay
 
-  of-finds : {rules : Rules} {c : Cursor} {f : Found} → Finds rules s c f → Hits rules (c .end) (c .at) (f .answer)
-  of-finds (unfit h) = a-refusal
-  of-finds (fit l m w) = skipping-hits w
+  of-finds : {rules : Rules} {c : Cursor} {f : Found} → Finds limit rules s c f → Hits rules (c .end) (c .at) (f .answer)
+  of-finds (unranged g) = a-refusal
+  of-finds (unfit g h) = a-refusal
+  of-finds (fit g l m w) = skipping-hits w
 
   pub record Called (rules : Rules) (c : Cursor) (r : Stepped) : Type 0 where
     pub hits : Hits rules (c .end) (c .at) (r .answer)
@@ -120,16 +121,16 @@ module _ (s : List ℕ) where
   kept-after c (gives i) = refl
   kept-after c (refuses n p) = refl
 
-  pub called : (rules : Rules) (c : Cursor) (r : Stepped) → Answers rules s c r → Called rules c r
+  pub called : (rules : Rules) (c : Cursor) (r : Stepped) → Answers limit rules s c r → Called rules c r
   unfolding stepOf
   called rules c r a =
-      let h : Hits rules (c .end) (c .at) (found rules s c .answer) = of-finds (finds rules s c) in
+      let h : Hits rules (c .end) (c .at) (found limit rules s c .answer) = of-finds (finds limit rules s c) in
       subst (Called rules c) (sym a)
-      (record { hits = h; to = leads h; kept = kept-after c (found rules s c .answer) })
+      (record { hits = h; to = leads h; kept = kept-after c (found limit rules s c .answer) })
 
   -- from what follows a call, to what follows the call before it
   pub from-there : (rules : Rules) (c d : Cursor) {q : ℕ} → d .end ≡ c .end → To rules (c .end) (c .at) (d .at) → To rules (d .end) (d .at) q → To rules (c .end) (c .at) q
-  from-there rules c d {q} h f g = nest.join (Standing s) f (subst (λ (z : ℕ). To rules z (d .at) q) h g)
+  from-there rules c d {q} h f g = nest.join (Standing limit s) f (subst (λ (z : ℕ). To rules z (d .at) q) h g)
 
   -- ---- where the items of a run stand
 
@@ -137,7 +138,7 @@ module _ (s : List ℕ) where
     pub place : ℕ
     pub to : To rules (c .end) (c .at) place
     pub before : place < c .end
-    pub is : tileAt rules s place (c .end) ≡ gives (hand i)
+    pub is : tileAt limit rules s place (c .end) ≡ gives (hand i)
 
   later : (rules : Rules) (c d : Cursor) (i : Item) → d .end ≡ c .end → To rules (c .end) (c .at) (d .at) → ItemStands rules d i → ItemStands rules c i
   later rules c d i h f w =
@@ -145,20 +146,20 @@ module _ (s : List ℕ) where
         place = w .place;
         to = from-there rules c d h f (w .to);
         before = omega (arith, w .before);
-        is = subst (λ (z : ℕ). tileAt rules s (w .place) z ≡ gives (hand i)) h (w .is);
+        is = subst (λ (z : ℕ). tileAt limit rules s (w .place) z ≡ gives (hand i)) h (w .is);
       }
 
-  this-or-later : (rules : Rules) (c : Cursor) {j : Item} {is : List Item} {i : Item} {a : ℕ} → To rules (c .end) (c .at) a → a < c .end → tileAt rules s a (c .end) ≡ gives (hand j) → (List·Memᴰ i is → ItemStands rules c i) → List·Memᴰ i (j ∷ is) → ItemStands rules c i
+  this-or-later : (rules : Rules) (c : Cursor) {j : Item} {is : List Item} {i : Item} {a : ℕ} → To rules (c .end) (c .at) a → a < c .end → tileAt limit rules s a (c .end) ≡ gives (hand j) → (List·Memᴰ i is → ItemStands rules c i) → List·Memᴰ i (j ∷ is) → ItemStands rules c i
   this-or-later rules c {i = i} {a = a} f l q ih m =
-      ⊎-elim (λ e. record { place = a; to = f; before = l; is = subst (λ (x : Item). tileAt rules s a (c .end) ≡ gives (hand x)) (sym e) q }) ih (List·Memᴰ·cases-cons m)
+      ⊎-elim (λ e. record { place = a; to = f; before = l; is = subst (λ (x : Item). tileAt limit rules s a (c .end) ≡ gives (hand x)) (sym e) q }) ih (List·Memᴰ·cases-cons m)
 
-  item-or-later : (rules : Rules) (c : Cursor) (j : Item) {is : List Item} {i : Item} {a : ℕ} → To rules (c .end) (c .at) a → a < c .end → tileAt rules s a (c .end) ≡ gives (hand j) → (List·Memᴰ i is → ItemStands rules c i) → List·Memᴰ i (handedOut (gives j) is) → ItemStands rules c i
+  item-or-later : (rules : Rules) (c : Cursor) (j : Item) {is : List Item} {i : Item} {a : ℕ} → To rules (c .end) (c .at) a → a < c .end → tileAt limit rules s a (c .end) ≡ gives (hand j) → (List·Memᴰ i is → ItemStands rules c i) → List·Memᴰ i (handedOut (gives j) is) → ItemStands rules c i
   item-or-later rules c (finish p) f l q ih m = ih m
   item-or-later rules c (marker a x y e) f l q ih m = this-or-later rules c f l q ih m
   item-or-later rules c (value v) f l q ih m = this-or-later rules c f l q ih m
   item-or-later rules c (field id a v) f l q ih m = this-or-later rules c f l q ih m
 
-  pub item-stands : (rules : Rules) {c : Cursor} {rs : List Stepped} {i : Item} → Run (Answers rules s) c rs → List·Memᴰ i (items rs) → ItemStands rules c i
+  pub item-stands : (rules : Rules) {c : Cursor} {rs : List Stepped} {i : Item} → Run (Answers limit rules s) c rs → List·Memᴰ i (items rs) → ItemStands rules c i
   item-stands rules none m = elim m [ ]
   item-stands rules {i = i} (call {c} {r} {rs} a run) m =
       let w = called rules c r a in
@@ -170,7 +171,7 @@ module _ (s : List ℕ) where
       go a-refusal ih m = ih m
 
   -- and so does whatever a call after a run looks at first
-  pub led : (rules : Rules) {c : Cursor} {rs : List Stepped} → Run (Answers rules s) c rs → (left c rs .end ≡ c .end) × To rules (c .end) (c .at) (left c rs .at)
+  pub led : (rules : Rules) {c : Cursor} {rs : List Stepped} → Run (Answers limit rules s) c rs → (left c rs .end ≡ c .end) × To rules (c .end) (c .at) (left c rs .at)
   led rules none = (refl, stay)
   led rules (call {c} {r} a run) =
       let w = called rules c r a in
@@ -182,9 +183,9 @@ module _ (s : List ℕ) where
   pub record PadStands (rules : Rules) (hi at : ℕ) (p : Pad) : Type 0 where
     pub to : To rules hi at (p .start)
     pub before : p .start < hi
-    pub is : tileAt rules s (p .start) hi ≡ gives (skip (p .body) (p .end))
+    pub is : tileAt limit rules s (p .start) hi ≡ gives (skip (p .body) (p .end))
 
-  skipping-pads : (rules : Rules) (hi : ℕ) {at : ℕ} {f : Found} {p : Pad} → Skipping rules s hi at f → List·Memᴰ p (f .pads) → PadStands rules hi at p
+  skipping-pads : (rules : Rules) (hi : ℕ) {at : ℕ} {f : Found} {p : Pad} → Skipping limit rules s hi at f → List·Memᴰ p (f .pads) → PadStands rules hi at p
   skipping-pads rules hi at-end m = elim m [ ]
   skipping-pads rules hi (at-item l h) m = elim m [ ]
   skipping-pads rules hi (at-refusal l h) m = elim m [ ]
@@ -193,41 +194,42 @@ module _ (s : List ℕ) where
       (λ q. subst (PadStands rules hi at) (sym q) (record { to = stay; before = l; is = h }))
       (λ y.
       let w = skipping-pads rules hi d y in
-      record { to = on (stands s rules hi at (skip b e) l h) (w .to); before = w .before; is = w .is })
+      record { to = on (stands limit s rules hi at (skip b e) l h) (w .to); before = w .before; is = w .is })
       (List·Memᴰ·cases-cons m)
 
-  pub pad-stands : (rules : Rules) (c : Cursor) {p : Pad} → List·Memᴰ p (found rules s c .pads) → PadStands rules (c .end) (c .at) p
-  pad-stands rules c {p} m = go (finds rules s c) m
+  pub pad-stands : (rules : Rules) (c : Cursor) {p : Pad} → List·Memᴰ p (found limit rules s c .pads) → PadStands rules (c .end) (c .at) p
+  pad-stands rules c {p} m = go (finds limit rules s c) m
     where
-      go : {f : Found} → Finds rules s c f → List·Memᴰ p (f .pads) → PadStands rules (c .end) (c .at) p
-      go (unfit h) m = elim m [ ]
-      go (fit l k w) m = skipping-pads rules (c .end) w m
+      go : {f : Found} → Finds limit rules s c f → List·Memᴰ p (f .pads) → PadStands rules (c .end) (c .at) p
+      go (unranged g) m = elim m [ ]
+      go (unfit g h) m = elim m [ ]
+      go (fit g l k w) m = skipping-pads rules (c .end) w m
 
   -- ---- parts and bodies, as places below the stream
 
-  pub item-standing : (rules : Rules) (c : Cursor) {i : Item} {v : Spans} → ValueOf i v → (w : ItemStands rules c i) → Standing s rules (c .end) (w .place) (valuePlace v)
+  pub item-standing : (rules : Rules) (c : Cursor) {i : Item} {v : Spans} → ValueOf i v → (w : ItemStands rules c i) → Standing limit s rules (c .end) (w .place) (valuePlace v)
   item-standing rules c {i} k w =
       record { tile = hand i; before = w .before; is = w .is; place = sym (value-place k) }
 
-  pub nested : {lo₀ hi₀ lo hi : ℕ} {rules : Rules} → Part (λ r. Answers r s) lo₀ hi₀ rules lo hi → Nest (Standing s) Stream lo₀ hi₀ rules lo hi
+  pub nested : {lo₀ hi₀ lo hi : ℕ} {rules : Rules} → Part (λ r. Answers limit r s) lo₀ hi₀ rules lo hi → Nest (Standing limit s) Stream lo₀ hi₀ rules lo hi
   nested the-stream = nest.whole
   nested (inner {rules} {lo} {hi} pt run m k o) =
       let w = item-stands rules run m in
       nest.inner (nested pt) (w .to) (item-standing rules (cursor lo hi) k w) o
 
-  pub under : {lo₀ hi₀ b e : ℕ} → ReachedBody s (λ r. Answers r s) lo₀ hi₀ b e → (a : ℕ) × Under (Standing s) a b e Stream lo₀ hi₀
+  pub under : {lo₀ hi₀ b e : ℕ} → ReachedBody limit s (λ r. Answers limit r s) lo₀ hi₀ b e → (a : ℕ) × Under (Standing limit s) a b e Stream lo₀ hi₀
   under (of-value {rules} {lo} {hi} h k) =
       let w = item-stands rules (h .run) (h .among) in
-      (w .place, nest.lift (Standing s) (nested (h .part)) (nest.here (w .to) (item-standing rules (cursor lo hi) k w) refl refl))
+      (w .place, nest.lift (Standing limit s) (nested (h .part)) (nest.here (w .to) (item-standing rules (cursor lo hi) k w) refl refl))
   under (of-pad {rules} {lo} {hi} {rs} {p} pt run m) =
       let w = led rules run in
       let z = pad-stands rules (left (cursor lo hi) rs) m in
       let to = from-there rules (cursor lo hi) (left (cursor lo hi) rs) (w .0) (w .1) (z .to) in
-      let t : Standing s rules hi (p .start) (closedPlace (p .body) (p .end))
+      let t : Standing limit s rules hi (p .start) (closedPlace (p .body) (p .end))
       = record {
         tile = skip (p .body) (p .end);
         before = omega (arith, z .before, w .0);
-        is = subst (λ (x : ℕ). tileAt rules s (p .start) x ≡ gives (skip (p .body) (p .end))) (w .0) (z .is);
+        is = subst (λ (x : ℕ). tileAt limit rules s (p .start) x ≡ gives (skip (p .body) (p .end))) (w .0) (z .is);
         place = refl;
       } in
-      (p .start, nest.lift (Standing s) (nested pt) (nest.here to t refl refl))
+      (p .start, nest.lift (Standing limit s) (nested pt) (nest.here to t refl refl))

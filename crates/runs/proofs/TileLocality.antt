@@ -24,7 +24,7 @@ use Rattle.stepping.specs.declared.cursor.Rules.{Rules}
 use Rattle.stepping.specs.declared.cursor.Rules.the-variants.{Stream, Sequence, Fields}
 use Rattle.runs.proofs.Standing.{placeOf}
 
-module _ (s t : List ℕ) (e : length s ≡ length t) where
+module _ (limit : ℕ) (s t : List ℕ) (e : length s ≡ length t) where
   -- ---- the same bytes in the rest of the part
 
   -- a marker's bytes: those of the part, or its four
@@ -36,11 +36,11 @@ module _ (s t : List ℕ) (e : length s ≡ length t) where
       let m : at + 4 ≤ n = ⊎-elim (λ (k : hi ≤ n). omega arith) (λ (k : at + 4 ≤ n). k) h in
       rw (same (at + 3) (omega arith) (omega arith), same (at + 1) (omega arith) (omega arith), same (at + 2) (omega arith) (omega arith)))
 
-  framed-local : (at hi : ℕ) → Same s t at hi → framedAt s at hi ≡ framedAt t at hi
+  framed-local : (at hi : ℕ) → Same s t at hi → framedAt limit s at hi ≡ framedAt limit t at hi
   unfolding framedAt
-  framed-local at hi same = ap (λ (o : Outcome Frame). andThen o asTile) (frame-local s t e at hi same)
+  framed-local at hi same = ap (λ (o : Outcome Frame). andThen o asTile) (frame-local limit s t e at hi same)
 
-  pub tile-local : (rules : Rules) (at hi : ℕ) → at < hi → Same s t at hi → tileAt rules s at hi ≡ tileAt rules t at hi
+  pub tile-local : (rules : Rules) (at hi : ℕ) → at < hi → Same s t at hi → tileAt limit rules s at hi ≡ tileAt limit rules t at hi
   unfolding tileAt fieldAt namedAt
   tile-local Stream at hi h same =
       rw (← same at (omega arith) h)
@@ -49,7 +49,7 @@ module _ (s t : List ℕ) (e : length s ≡ length t) where
   tile-local Fields at hi h same =
       then-same (var-uint-bounded s at hi) (var-uint-local s t at hi e (λ i a b. same i a (omega (arith, looked-high s at hi)))) (λ u b.
       refuse-same (eqb (u .next) hi) 7 hi (λ _.
-      ap (λ (o : Outcome Frame). andThen o (asField (u .value) at)) (frame-local s t e (u .next) hi (λ i a c. same i (omega (arith, b .begins)) c))))
+      ap (λ (o : Outcome Frame). andThen o (asField (u .value) at)) (frame-local limit s t e (u .next) hi (λ i a c. same i (omega (arith, b .begins)) c))))
 
   -- ---- the same bytes in the header
 
@@ -57,11 +57,11 @@ module _ (s t : List ℕ) (e : length s ≡ length t) where
   frameBody (padding p) = p .body
   frameBody (valued v) = v .body
 
-  frame-moves : (at hi : ℕ) {f : Frame} → Same s t at (frameBody f) → FrameIs s at hi f → readFrame t at hi ≡ gives f
-  frame-moves at hi same (pad-is {p} r) = pad-given-local s t e at hi p same r
+  frame-moves : (at hi : ℕ) {f : Frame} → Same s t at (frameBody f) → FrameIs limit s at hi f → readFrame limit t at hi ≡ gives f
+  frame-moves at hi same (pad-is {p} r) = pad-given-local limit s t e at hi p same r
   frame-moves at hi same (value-is {v} r) =
-      let o : Ordered at hi v = each-of (read-value-each s at hi) r in
-      value-given-local s t e at hi v
+      let o : Ordered at hi v = each-of (read-value-each limit s at hi) r in
+      value-given-local limit s t e at hi v
       (record {
         wrapper = λ i a b. same i a (omega (arith, o .described, o .bodied));
         value = λ i a b. same i (omega (arith, o .annotated, o .described)) b;
@@ -69,8 +69,8 @@ module _ (s t : List ℕ) (e : length s ≡ length t) where
       r
       .1
 
-  frame-given-local : (at hi : ℕ) (f : Frame) → readFrame s at hi ≡ gives f → Same s t at (frameBody f) → readFrame t at hi ≡ gives f
-  frame-given-local at hi f q same = frame-moves at hi same (each-of (frame-is s at hi) q)
+  frame-given-local : (at hi : ℕ) (f : Frame) → readFrame limit s at hi ≡ gives f → Same s t at (frameBody f) → readFrame limit t at hi ≡ gives f
+  frame-given-local at hi f q same = frame-moves at hi same (each-of (frame-is limit s at hi) q)
 
   -- the body of a tile is its frame's
   tile-body : (f : Frame) (x : Tile) → asTile f ≡ gives x → placeOf x .body ≡ frameBody f
@@ -81,10 +81,10 @@ module _ (s t : List ℕ) (e : length s ≡ length t) where
   field-body id at (padding p) x h = let q : skip (p .body) (p .end) ≡ x = cc in ap (λ (y : Tile). placeOf y .body) (sym q)
   field-body id at (valued v) x h = let q : hand (field id at v) ≡ x = cc in ap (λ (y : Tile). placeOf y .body) (sym q)
 
-  framed-given-local : (at hi : ℕ) (x : Tile) → framedAt s at hi ≡ gives x → Same s t at (placeOf x .body) → framedAt t at hi ≡ gives x
+  framed-given-local : (at hi : ℕ) (x : Tile) → framedAt limit s at hi ≡ gives x → Same s t at (placeOf x .body) → framedAt limit t at hi ≡ gives x
   unfolding framedAt
   framed-given-local at hi x h same =
-      let w = then-gives (readFrame s at hi) asTile h in
+      let w = then-gives (readFrame limit s at hi) asTile h in
       rw (frame-given-local at hi (w .0) (w .1) (subst (Same s t at) (tile-body (w .0) x (w .2)) same)) (w .2)
 
   -- a marker's tile has four bytes
@@ -97,28 +97,28 @@ module _ (s t : List ℕ) (e : length s ≡ length t) where
       let r : hand (marker at (getD s (at + 1) 0) (getD s (at + 2) 0) (at + 4)) ≡ x = cc in
       ap (λ (y : Tile). placeOf y .body) (sym r)
 
-  field-given-local : (at hi : ℕ) (x : Tile) → fieldAt s at hi ≡ gives x → Same s t at (placeOf x .body) → fieldAt t at hi ≡ gives x
+  field-given-local : (at hi : ℕ) (x : Tile) → fieldAt limit s at hi ≡ gives x → Same s t at (placeOf x .body) → fieldAt limit t at hi ≡ gives x
   unfolding fieldAt namedAt
   field-given-local at hi x h same =
-      let w = then-gives (varUInt s at hi) (namedAt s at hi) h in
+      let w = then-gives (varUInt s at hi) (namedAt limit s at hi) h in
       let u : Unsigned = w .0 in
       let b : Bounded at hi u = each-of (var-uint-bounded s at hi) (w .1) in
       let p = refuse-gives (eqb (u .next) hi) 7 hi (w .2) in
-      let g = then-gives (readFrame s (u .next) hi) (asField (u .value) at) (p .1) in
+      let g = then-gives (readFrame limit s (u .next) hi) (asField (u .value) at) (p .1) in
       let q : placeOf x .body ≡ frameBody (g .0) = field-body (u .value) at (g .0) x (g .2) in
       let low : u .next < frameBody (g .0) = frame-low (u .next) hi (g .0) (g .1) in
       let v : varUInt t at hi ≡ gives u
       = sym (var-uint-local s t at hi e (λ i a c. same i a (omega (arith, var-uint-looked s at hi (w .1))))) ∙ w .1 in
       rw (v, p .0, frame-given-local (u .next) hi (g .0) (g .1) (λ i a c. same i (omega (arith, b .begins)) (omega arith))) (g .2)
     where
-      frame-low : (next hi : ℕ) (f : Frame) → readFrame s next hi ≡ gives f → next < frameBody f
-      frame-low next hi f q = low-of (each-of (frame-each s next hi) q)
+      frame-low : (next hi : ℕ) (f : Frame) → readFrame limit s next hi ≡ gives f → next < frameBody f
+      frame-low next hi f q = low-of (each-of (frame-each limit s next hi) q)
         where
           low-of : {g : Frame} → FrameIn next hi g → next < frameBody g
           low-of (pad-in p) = p .bodied
           low-of (value-in o) = omega (arith, o .annotated, o .described, o .bodied)
 
-  pub tile-given-local : (rules : Rules) (at hi : ℕ) (x : Tile) → at < placeOf x .body → tileAt rules s at hi ≡ gives x → Same s t at (placeOf x .body) → tileAt rules t at hi ≡ gives x
+  pub tile-given-local : (rules : Rules) (at hi : ℕ) (x : Tile) → at < placeOf x .body → tileAt limit rules s at hi ≡ gives x → Same s t at (placeOf x .body) → tileAt limit rules t at hi ≡ gives x
   unfolding tileAt
   tile-given-local Stream at hi x l h same =
       rw (← same at (omega arith) l)
@@ -126,6 +126,6 @@ module _ (s t : List ℕ) (e : length s ≡ length t) where
       (λ k.
       let m : markerAt s at hi ≡ gives x = rw k at h in
       rw k (sym (marker-local at hi (placeOf x .body) (inr (omega (arith, marker-body at hi x m))) same) ∙ m))
-      (λ k. let m : framedAt s at hi ≡ gives x = rw k at h in rw k (framed-given-local at hi x m same)))
+      (λ k. let m : framedAt limit s at hi ≡ gives x = rw k at h in rw k (framed-given-local at hi x m same)))
   tile-given-local Sequence at hi x l h same = framed-given-local at hi x h same
   tile-given-local Fields at hi x l h same = field-given-local at hi x h same

@@ -40,55 +40,55 @@ use Rattle.bodies.proofs.Rows.{utf8-local}
 -- ---- an item's value, framed where it starts
 
 -- the value v stands at its own start, in the item that starts at p
-pub record ValueStands (s : List ℕ) (hi p : ℕ) (i : Item) (v : Spans) : Type 0 where
-  pub read : readValue s (v .start) hi ≡ gives v
+pub record ValueStands (limit : ℕ) (s : List ℕ) (hi p : ℕ) (i : Item) (v : Spans) : Type 0 where
+  pub read : readValue limit s (v .start) hi ≡ gives v
   pub starts : itemStart i ≡ p
   pub low : p ≤ v .start
 
-value-read : (s : List ℕ) (p hi : ℕ) (v : Spans) → readFrame s p hi ≡ gives (valued v) → readValue s p hi ≡ gives v
-value-read s p hi v q = go (valued v) refl (each-of (frame-is s p hi) q)
+value-read : (limit : ℕ) (s : List ℕ) (p hi : ℕ) (v : Spans) → readFrame limit s p hi ≡ gives (valued v) → readValue limit s p hi ≡ gives v
+value-read limit s p hi v q = go (valued v) refl (each-of (frame-is limit s p hi) q)
   where
-    go : (f : Frame) → f ≡ valued v → FrameIs s p hi f → readValue s p hi ≡ gives v
+    go : (f : Frame) → f ≡ valued v → FrameIs limit s p hi f → readValue limit s p hi ≡ gives v
     go f h (value-is {v = u} r) = let e : u ≡ v = cc in r ∙ ap gives e
     go f h (pad-is r) = absurd (let z : _≡_ {A = ℕ} 0 1 = cc in omega arith)
 
-at-start : (s : List ℕ) (p hi : ℕ) (v : Spans) → readValue s p hi ≡ gives v → v .start ≡ p
-at-start s p hi v q = each-of (read-value-each s p hi) q .starts
+at-start : (limit : ℕ) (s : List ℕ) (p hi : ℕ) (v : Spans) → readValue limit s p hi ≡ gives v → v .start ≡ p
+at-start limit s p hi v q = each-of (read-value-each limit s p hi) q .starts
 
-stands-at : (s : List ℕ) (p next hi : ℕ) (i : Item) (v : Spans) → itemStart i ≡ p → p ≤ next → readValue s next hi ≡ gives v → ValueStands s hi p i v
-stands-at s p next hi i v h l r =
-    let q : v .start ≡ next = at-start s next hi v r in
-    record { read = subst (λ (x : ℕ). readValue s x hi ≡ gives v) (sym q) r; starts = h; low = omega arith }
+stands-at : (limit : ℕ) (s : List ℕ) (p next hi : ℕ) (i : Item) (v : Spans) → itemStart i ≡ p → p ≤ next → readValue limit s next hi ≡ gives v → ValueStands limit s hi p i v
+stands-at limit s p next hi i v h l r =
+    let q : v .start ≡ next = at-start limit s next hi v r in
+    record { read = subst (λ (x : ℕ). readValue limit s x hi ≡ gives v) (sym q) r; starts = h; low = omega arith }
 
-framed-stands : (s : List ℕ) (p hi : ℕ) {i : Item} {v : Spans} → ValueOf i v → framedAt s p hi ≡ gives (hand i) → ValueStands s hi p i v
+framed-stands : (limit : ℕ) (s : List ℕ) (p hi : ℕ) {i : Item} {v : Spans} → ValueOf i v → framedAt limit s p hi ≡ gives (hand i) → ValueStands limit s hi p i v
 unfolding framedAt
-framed-stands s p hi k q = let w = then-gives (readFrame s p hi) asTile q in go (w .0) (w .1) k (w .2)
+framed-stands limit s p hi k q = let w = then-gives (readFrame limit s p hi) asTile q in go (w .0) (w .1) k (w .2)
   where
-    go : (f : Frame) → readFrame s p hi ≡ gives f → {i : Item} {v : Spans} → ValueOf i v → asTile f ≡ gives (hand i) → ValueStands s hi p i v
+    go : (f : Frame) → readFrame limit s p hi ≡ gives f → {i : Item} {v : Spans} → ValueOf i v → asTile f ≡ gives (hand i) → ValueStands limit s hi p i v
     go (padding x) r k h = absurd (let z : _≡_ {A = ℕ} 0 1 = cc in omega arith)
     go (valued u) r (a-value {v}) h =
         let e : u ≡ v = cc in
-        let m : readValue s p hi ≡ gives v = value-read s p hi u r ∙ ap gives e in
-        stands-at s p p hi (value v) v (at-start s p hi v m) (omega arith) m
+        let m : readValue limit s p hi ≡ gives v = value-read limit s p hi u r ∙ ap gives e in
+        stands-at limit s p p hi (value v) v (at-start limit s p hi v m) (omega arith) m
     go (valued u) r (a-field {id} {a} {v}) h = absurd (let z : _≡_ {A = ℕ} 0 1 = cc in omega arith)
 
-field-stands : (s : List ℕ) (p hi : ℕ) {i : Item} {v : Spans} → ValueOf i v → fieldAt s p hi ≡ gives (hand i) → ValueStands s hi p i v
+field-stands : (limit : ℕ) (s : List ℕ) (p hi : ℕ) {i : Item} {v : Spans} → ValueOf i v → fieldAt limit s p hi ≡ gives (hand i) → ValueStands limit s hi p i v
 unfolding fieldAt namedAt
-field-stands s p hi k q =
-    let w = then-gives (varUInt s p hi) (namedAt s p hi) q in
+field-stands limit s p hi k q =
+    let w = then-gives (varUInt s p hi) (namedAt limit s p hi) q in
     let u : Unsigned = w .0 in
     let b : Bounded p hi u = each-of (var-uint-bounded s p hi) (w .1) in
     let r = refuse-gives (eqb (u .next) hi) 7 hi (w .2) in
-    let g = then-gives (readFrame s (u .next) hi) (asField (u .value) p) (r .1) in
+    let g = then-gives (readFrame limit s (u .next) hi) (asField (u .value) p) (r .1) in
     go (u .value) (u .next) (b .begins) (g .0) (g .1) k (g .2)
   where
-    go : (id next : ℕ) → p < next → (f : Frame) → readFrame s next hi ≡ gives f → {i : Item} {v : Spans} → ValueOf i v → asField id p f ≡ gives (hand i) → ValueStands s hi p i v
+    go : (id next : ℕ) → p < next → (f : Frame) → readFrame limit s next hi ≡ gives f → {i : Item} {v : Spans} → ValueOf i v → asField id p f ≡ gives (hand i) → ValueStands limit s hi p i v
     go id next l (padding x) r k h = absurd (let z : _≡_ {A = ℕ} 0 1 = cc in omega arith)
     go id next l (valued u) r (a-value {v}) h = absurd (let z : _≡_ {A = ℕ} 0 1 = cc in omega arith)
     go id next l (valued u) r (a-field {id = x} {a} {v}) h =
         let e : u ≡ v = cc in
         let c : a ≡ p = cc in
-        stands-at s p next hi (field x a v) v c (omega arith) (value-read s next hi u r ∙ ap gives e)
+        stands-at limit s p next hi (field x a v) v c (omega arith) (value-read limit s next hi u r ∙ ap gives e)
 
 -- no value stands where a marker does
 marker-stands : (s : List ℕ) (p hi : ℕ) {i : Item} {v : Spans} → ValueOf i v → markerAt s p hi ≡ gives (hand i) → ⊥
@@ -103,42 +103,42 @@ marker-stands s p hi {i} k q =
     no-value a-value e = let z : _≡_ {A = ℕ} 0 1 = cc in omega arith
     no-value a-field e = let z : _≡_ {A = ℕ} 0 1 = cc in omega arith
 
-pub value-stands : (rules : Rules) (s : List ℕ) (p hi : ℕ) {i : Item} {v : Spans} → ValueOf i v → tileAt rules s p hi ≡ gives (hand i) → ValueStands s hi p i v
+pub value-stands : (limit : ℕ) (rules : Rules) (s : List ℕ) (p hi : ℕ) {i : Item} {v : Spans} → ValueOf i v → tileAt limit rules s p hi ≡ gives (hand i) → ValueStands limit s hi p i v
 unfolding tileAt
-value-stands Stream s p hi {i} {v} k =
-    by-test (λ (o : Outcome Tile). o ≡ gives (hand i) → ValueStands s hi p i v) (eqb (getD s p 0) 224)
-    (λ _ q. absurd (marker-stands s p hi k q)) (λ _ q. framed-stands s p hi k q)
-value-stands Sequence s p hi k = λ q. framed-stands s p hi k q
-value-stands Fields s p hi k = λ q. field-stands s p hi k q
+value-stands limit Stream s p hi {i} {v} k =
+    by-test (λ (o : Outcome Tile). o ≡ gives (hand i) → ValueStands limit s hi p i v) (eqb (getD s p 0) 224)
+    (λ _ q. absurd (marker-stands s p hi k q)) (λ _ q. framed-stands limit s p hi k q)
+value-stands limit Sequence s p hi k = λ q. framed-stands limit s p hi k q
+value-stands limit Fields s p hi k = λ q. field-stands limit s p hi k q
 
 -- ---- framed afresh at its wrapper or its descriptor
 
 -- the same value, as an entry at `at` frames it: with or without its wrapper
-pub record Afresh (s : List ℕ) (hi at : ℕ) (v : Spans) : Type 0 where
+pub record Afresh (limit : ℕ) (s : List ℕ) (hi at : ℕ) (v : Spans) : Type 0 where
   pub value : Spans
-  pub read : readValue s at hi ≡ gives value
+  pub read : readValue limit s at hi ≡ gives value
   pub byte : value .byte ≡ v .byte
   pub descriptor : value .descriptor ≡ v .descriptor
   pub body : value .body ≡ v .body
   pub end : value .end ≡ v .end
   pub low : v .start ≤ at
 
-pub afresh : (s : List ℕ) (hi at : ℕ) (v : Spans) → readValue s (v .start) hi ≡ gives v → EntryAt v at → Afresh s hi at v
-afresh s hi at v r (inl e) =
-    record { value = v; read = subst (λ (x : ℕ). readValue s x hi ≡ gives v) (sym e) r; byte = refl; descriptor = refl; body = refl; end = refl; low = omega arith }
-afresh s hi at v r (inr e) = let b = values-sound s (v .start) hi v r in go (b .0) (b .1)
+pub afresh : (limit : ℕ) (s : List ℕ) (hi at : ℕ) (v : Spans) → readValue limit s (v .start) hi ≡ gives v → EntryAt v at → Afresh limit s hi at v
+afresh limit s hi at v r (inl e) =
+    record { value = v; read = subst (λ (x : ℕ). readValue limit s x hi ≡ gives v) (sym e) r; byte = refl; descriptor = refl; body = refl; end = refl; low = omega arith }
+afresh limit s hi at v r (inr e) = let b = values-sound limit s (v .start) hi v r in go (b .0) (b .1)
   where
     o : Ordered (v .start) hi v
-    o = each-of (read-value-each s (v .start) hi) r
+    o = each-of (read-value-each limit s (v .start) hi) r
 
-    go : (b : ValueBytes s (v .start) hi v) → Within b → Afresh s hi at v
+    go : (b : ValueBytes s (v .start) hi v) → Within limit b → Afresh limit s hi at v
     go (plain t) l =
         let q : v .start ≡ at = sym (e ∙ t .descriptor) in
-        record { value = v; read = subst (λ (x : ℕ). readValue s x hi ≡ gives v) q r; byte = refl; descriptor = refl; body = refl; end = refl; low = omega arith }
+        record { value = v; read = subst (λ (x : ℕ). readValue limit s x hi ≡ gives v) q r; byte = refl; descriptor = refl; body = refl; end = refl; low = omega arith }
     go (annotated w) l =
         record {
           value = w .inner;
-          read = subst (λ (x : ℕ). readValue s x hi ≡ gives (w .inner)) (sym e) (values-complete s (v .descriptor) hi (w .inner) (plain (w .value)) (omega (arith, l .3, w .body)) .0);
+          read = subst (λ (x : ℕ). readValue limit s x hi ≡ gives (w .inner)) (sym e) (values-complete limit s (v .descriptor) hi (w .inner) (plain (w .value)) (omega (arith, l .3, w .body)) .0);
           byte = sym (w .byte);
           descriptor = w .value .descriptor;
           body = sym (w .body);

@@ -46,14 +46,14 @@ use Rattle.runs.specs.Reached.{ReachedBody, Agree, In, Entries, SameAnsw
 
 module _ {M : Type 1} (𝓤 : URA M) (H : Heap 𝓤) (𝓜 : Model 𝓤 H) (𝓖 : GhostRules 𝓤 H) (κs : Lfts 1) where
   -- the machine, called for the program's step of these rules with the cursor c on the slice s, in some memory in which they are passed, returned x
-  abbrev pub Returned : Rules → RefT (List ℕ) → Cursor → Step → Type 1
-  Returned Stream s c x = machine.Returned 𝓤 H 𝓜 𝓖 in-stream.signature in-stream-symbol.routine κs tt lowers (c, (s, tt)) x
-  Returned Sequence s c x = machine.Returned 𝓤 H 𝓜 𝓖 in-sequence.signature in-sequence-symbol.routine κs tt lowers (c, (s, tt)) x
-  Returned Fields s c x = machine.Returned 𝓤 H 𝓜 𝓖 in-struct.signature in-struct-symbol.routine κs tt lowers (c, (s, tt)) x
+  abbrev pub Returned : ℕ → Rules → RefT (List ℕ) → Cursor → Step → Type 1
+  Returned limit Stream s c x = machine.Returned 𝓤 H 𝓜 𝓖 in-stream.signature in-stream-symbol.routine κs tt lowers (c, (s, (limit, tt))) x
+  Returned limit Sequence s c x = machine.Returned 𝓤 H 𝓜 𝓖 in-sequence.signature in-sequence-symbol.routine κs tt lowers (c, (s, (limit, tt))) x
+  Returned limit Fields s c x = machine.Returned 𝓤 H 𝓜 𝓖 in-struct.signature in-struct-symbol.routine κs tt lowers (c, (s, (limit, tt))) x
 
   -- r is an answer of the program
-  abbrev pub Program : Rules → RefT (List ℕ) → Cursor → Stepped → Type 1
-  Program rules s c r = (x : Step) × Returned rules s c x × (stepRead x ≡ r)
+  abbrev pub Program : ℕ → Rules → RefT (List ℕ) → Cursor → Stepped → Type 1
+  Program limit rules s c r = (x : Step) × Returned limit rules s c x × (stepRead x ≡ r)
 
   -- o is what the machine's answer to an annotation step on s, at `at` of the bytes that end at `end`, is read as
   abbrev pub Annotates : RefT (List ℕ) → ℕ → ℕ → Outcome Annotated → Type 1
@@ -63,66 +63,72 @@ module _ {M : Type 1} (𝓤 : URA M) (H : Heap 𝓤) (𝓜 : Model 𝓤 H) (𝓖
       × (annotationRead x ≡ o)
 
   -- and to stepping in, in the part lo..hi at `at`
-  abbrev pub Enters : RefT (List ℕ) → ℕ → ℕ → ℕ → Outcome Opened → Type 1
-  Enters s lo hi at o =
+  abbrev pub Enters : ℕ → RefT (List ℕ) → ℕ → ℕ → ℕ → Outcome Opened → Type 1
+  Enters limit s lo hi at o =
       (x : BodyEnum)
-      × machine.Returned 𝓤 H 𝓜 𝓖 entering.signature entering-symbol.routine κs tt body-laws.lowers (s, (lo, (hi, (at, tt)))) x
+      × machine.Returned 𝓤 H 𝓜 𝓖 entering.signature entering-symbol.routine κs tt body-laws.lowers (s, (lo, (hi, (at, (limit, tt))))) x
       × (bodyRead x ≡ o)
 
   -- and to the scalar reading
-  abbrev pub Reads : RefT (List ℕ) → ℕ → ℕ → ℕ → Outcome Scalar → Type 1
-  Reads s lo hi at o =
+  abbrev pub Reads : ℕ → RefT (List ℕ) → ℕ → ℕ → ℕ → Outcome Scalar → Type 1
+  Reads limit s lo hi at o =
       (x : ScalarEnum)
-      × machine.Returned 𝓤 H 𝓜 𝓖 reading.signature reading-symbol.routine κs tt scalar-laws.lowers (s, (lo, (hi, (at, tt)))) x
+      × machine.Returned 𝓤 H 𝓜 𝓖 reading.signature reading-symbol.routine κs tt scalar-laws.lowers (s, (lo, (hi, (at, (limit, tt))))) x
       × (scalarRead x ≡ o)
 
   -- the bytes of the map at the span that the machine's scalar reading returned
-  abbrev pub BytesRead : RefT (List ℕ) → ℕ → ℕ → ℕ → List ℕ → Type 1
-  BytesRead s lo hi at r = (o : Outcome Scalar) × Reads s lo hi at o × (r ≡ partOf (now s) o)
+  abbrev pub BytesRead : ℕ → RefT (List ℕ) → ℕ → ℕ → ℕ → List ℕ → Type 1
+  BytesRead limit s lo hi at r = (o : Outcome Scalar) × Reads limit s lo hi at o × (r ≡ partOf (now s) o)
 
   -- the map s with the program's answers
-  abbrev pub ByProgram : RefT (List ℕ) → Entries {1}
-  ByProgram s =
+  abbrev pub ByProgram : ℕ → RefT (List ℕ) → Entries {1}
+  ByProgram limit s =
       record {
         map = now s;
-        step = λ rules. Program rules s;
+        limit = limit;
+        step = λ rules. Program limit rules s;
         annotation = Annotates s;
-        entering = Enters s;
-        reading = Reads s;
-        bytes = BytesRead s;
+        entering = Enters limit s;
+        reading = Reads limit s;
+        bytes = BytesRead limit s;
       }
 
   -- Demand 3, first half, of the program: whatever the machine returned, in however many calls, tiles the part.
   abbrev pub ProgramTiling : Type 1
   ProgramTiling =
-      (rules : Rules) (s : RefT (List ℕ)) (lo hi : ℕ) (rs : List Stepped)
-      → Run (Program rules s) (cursor lo hi) rs → Tiled rules (now s) lo hi rs
+      (limit : ℕ) (rules : Rules) (s : RefT (List ℕ)) (lo hi : ℕ) (rs : List Stepped)
+      → Run (Program limit rules s) (cursor lo hi) rs → Tiled limit rules (now s) lo hi rs
 
   -- Demand 3, second half, of the program: whatever the machine returned on two maps that are alike outside one reached body, in however many calls outside it,
   -- is the same.
   abbrev pub ProgramOverwriting : Type 1
   ProgramOverwriting =
-      (s s' : RefT (List ℕ)) (lo₀ hi₀ b e : ℕ)
-      → ReachedBody (now s) (ByProgram s .step) lo₀ hi₀ b e → Agree (now s) (now s') (In b e) → SameAnswers (ByProgram s) (ByProgram s') lo₀ hi₀ b e
+      (limit : ℕ) (s s' : RefT (List ℕ)) (lo₀ hi₀ b e : ℕ)
+      → ReachedBody limit (now s) (ByProgram limit s .step) lo₀ hi₀ b e → Agree (now s) (now s') (In b e)
+      → SameAnswers (ByProgram limit s) (ByProgram limit s') lo₀ hi₀ b e
 
-  -- The calls of the program end: of a step with any cursor on any slice, in every memory in which they are passed, with the answer that the rules define.
-  abbrev pub StepEnds : Rules → RefT (List ℕ) → Cursor → Type 1
-  StepEnds Stream s c =
-      machine.Ends 𝓤 H 𝓜 𝓖 in-stream.signature in-stream-symbol.routine κs tt lowers (c, (s, tt)) (λ x. stepRead x ≡ stepOf Stream (now s) c)
-  StepEnds Sequence s c =
-      machine.Ends 𝓤 H 𝓜 𝓖 in-sequence.signature in-sequence-symbol.routine κs tt lowers (c, (s, tt)) (λ x. stepRead x ≡ stepOf Sequence (now s) c)
-  StepEnds Fields s c =
-      machine.Ends 𝓤 H 𝓜 𝓖 in-struct.signature in-struct-symbol.routine κs tt lowers (c, (s, tt)) (λ x. stepRead x ≡ stepOf Fields (now s) c)
+  -- The calls of the program end: of a step with any limit and any cursor on any slice, in every memory in which they are passed, with the answer that the
+  -- rules define.
+  abbrev pub StepEnds : ℕ → Rules → RefT (List ℕ) → Cursor → Type 1
+  StepEnds limit Stream s c =
+      machine.Ends 𝓤 H 𝓜 𝓖 in-stream.signature in-stream-symbol.routine κs tt lowers (c, (s, (limit, tt)))
+      (λ x. stepRead x ≡ stepOf limit Stream (now s) c)
+  StepEnds limit Sequence s c =
+      machine.Ends 𝓤 H 𝓜 𝓖 in-sequence.signature in-sequence-symbol.routine κs tt lowers (c, (s, (limit, tt)))
+      (λ x. stepRead x ≡ stepOf limit Sequence (now s) c)
+  StepEnds limit Fields s c =
+      machine.Ends 𝓤 H 𝓜 𝓖 in-struct.signature in-struct-symbol.routine κs tt lowers (c, (s, (limit, tt)))
+      (λ x. stepRead x ≡ stepOf limit Fields (now s) c)
 
   -- So do those of the annotation step, stepping in and the scalar reading, at any positions.
   pub record ProgramEnds : Type 1 where
-    pub steps : (rules : Rules) (s : RefT (List ℕ)) (c : Cursor) → StepEnds rules s c
+    pub steps : (limit : ℕ) (rules : Rules) (s : RefT (List ℕ)) (c : Cursor) → StepEnds limit rules s c
     pub annotation : (s : RefT (List ℕ)) (at end : ℕ)
         → machine.Ends 𝓤 H 𝓜 𝓖 annotation.signature annotation-symbol.routine κs tt annotation-laws.lowers (s, (at, (end, tt)))
         (λ x. annotationRead x ≡ readAnnotation (now s) at end)
-    pub entering : (s : RefT (List ℕ)) (lo hi at : ℕ)
-        → machine.Ends 𝓤 H 𝓜 𝓖 entering.signature entering-symbol.routine κs tt body-laws.lowers (s, (lo, (hi, (at, tt))))
-        (λ x. bodyRead x ≡ stepIn (now s) lo hi at)
-    pub reading : (s : RefT (List ℕ)) (lo hi at : ℕ)
-        → machine.Ends 𝓤 H 𝓜 𝓖 reading.signature reading-symbol.routine κs tt scalar-laws.lowers (s, (lo, (hi, (at, tt))))
-        (λ x. scalarRead x ≡ readScalar (now s) lo hi at)
+    pub entering : (limit : ℕ) (s : RefT (List ℕ)) (lo hi at : ℕ)
+        → machine.Ends 𝓤 H 𝓜 𝓖 entering.signature entering-symbol.routine κs tt body-laws.lowers (s, (lo, (hi, (at, (limit, tt)))))
+        (λ x. bodyRead x ≡ stepIn limit (now s) lo hi at)
+    pub reading : (limit : ℕ) (s : RefT (List ℕ)) (lo hi at : ℕ)
+        → machine.Ends 𝓤 H 𝓜 𝓖 reading.signature reading-symbol.routine κs tt scalar-laws.lowers (s, (lo, (hi, (at, (limit, tt)))))
+        (λ x. scalarRead x ≡ readScalar limit (now s) lo hi at)

@@ -50,16 +50,16 @@ left c [] = c
 left c (r ∷ rs) = left (r .next) rs
 
 -- the pads that a call after the calls rs on the part lo..hi skips
-abbrev pub padsAfter : Rules → List ℕ → ℕ → ℕ → List Stepped → List Pad
-padsAfter rules s lo hi rs = found rules s (left (cursor lo hi) rs) .pads
+abbrev pub padsAfter : ℕ → Rules → List ℕ → ℕ → ℕ → List Stepped → List Pad
+padsAfter limit rules s lo hi rs = found limit rules s (left (cursor lo hi) rs) .pads
 
 -- the reached bodies b..e of the map s: of each value handed out, and of each pad that a call after a run skips, "also where the step then refuses or ends"
-pub data ReachedBody {ℓ} (s : List ℕ) (step : Rules → Cursor → Stepped → Type ℓ) (lo₀ hi₀ : ℕ) : ℕ → ℕ → Type ℓ where
+pub data ReachedBody {ℓ} (limit : ℕ) (s : List ℕ) (step : Rules → Cursor → Stepped → Type ℓ) (lo₀ hi₀ : ℕ) : ℕ → ℕ → Type ℓ where
   of-value : {rules : Rules} {lo hi : ℕ} {i : Item} {v : Spans}
-      → Handed step lo₀ hi₀ rules lo hi i → ValueOf i v → ReachedBody s step lo₀ hi₀ (v .body) (v .end)
+      → Handed step lo₀ hi₀ rules lo hi i → ValueOf i v → ReachedBody limit s step lo₀ hi₀ (v .body) (v .end)
   of-pad : {rules : Rules} {lo hi : ℕ} {rs : List Stepped} {p : Pad}
-      → Part step lo₀ hi₀ rules lo hi → Run (step rules) (cursor lo hi) rs → List·Memᴰ p (padsAfter rules s lo hi rs)
-      → ReachedBody s step lo₀ hi₀ (p .body) (p .end)
+      → Part step lo₀ hi₀ rules lo hi → Run (step rules) (cursor lo hi) rs → List·Memᴰ p (padsAfter limit rules s lo hi rs)
+      → ReachedBody limit s step lo₀ hi₀ (p .body) (p .end)
 
 -- two statements that hold together
 abbrev pub Iff : Type 0 → Type 0 → Type 0
@@ -98,10 +98,11 @@ pub data AnnotationRun {ℓ} (step : ℕ → Outcome Annotated → Type ℓ) : �
   call : {at : ℕ} {r : Outcome Annotated} {rs : List (Outcome Annotated)}
       → step at r → AnnotationRun step (nextAnnotation at r) rs → AnnotationRun step at (r ∷ rs)
 
--- a map with the answers that its six entries have: the steps of the three rules with a cursor; the annotation step at a position of bytes that end at `end`;
--- stepping in, the scalar reading and the bytes of its part, in the part lo..hi at a position
+-- a map, the limit of annotation bytes that its calls are given, and the answers that its six entries have: the steps of the three rules with a cursor; the
+-- annotation step at a position of bytes that end at `end`; stepping in, the scalar reading and the bytes of its part, in the part lo..hi at a position
 pub record Entries {ℓ} : Type (ℓ + 1) where
   pub map : List ℕ
+  pub limit : ℕ
   pub step : Rules → Cursor → Stepped → Type ℓ
   pub annotation : ℕ → ℕ → Outcome Annotated → Type ℓ
   pub entering : ℕ → ℕ → ℕ → Outcome Opened → Type ℓ
@@ -109,15 +110,16 @@ pub record Entries {ℓ} : Type (ℓ + 1) where
   pub bytes : ℕ → ℕ → ℕ → List ℕ → Type ℓ
 
 -- the map s with the answers that the rules define
-abbrev pub ByRules : List ℕ → Entries {0}
-ByRules s =
+abbrev pub ByRules : ℕ → List ℕ → Entries {0}
+ByRules limit s =
     record {
       map = s;
-      step = λ rules. Answers rules s;
+      limit = limit;
+      step = λ rules. Answers limit rules s;
       annotation = λ end at r. r ≡ readAnnotation s at end;
-      entering = λ lo hi at r. r ≡ stepIn s lo hi at;
-      reading = λ lo hi at r. r ≡ readScalar s lo hi at;
-      bytes = λ lo hi at r. r ≡ scalarPart s lo hi at;
+      entering = λ lo hi at r. r ≡ stepIn limit s lo hi at;
+      reading = λ lo hi at r. r ≡ readScalar limit s lo hi at;
+      bytes = λ lo hi at r. r ≡ scalarPart limit s lo hi at;
     }
 
 -- Two maps E and E' with the stream lo₀..hi₀, and a body b..e. A part that is reached in either map, and a value that is handed out in either, with the item
@@ -146,7 +148,8 @@ module _ {ℓ} (E E' : Entries {ℓ}) (lo₀ hi₀ b e : ℕ) where
     pub steps : (rules : Rules) (lo hi : ℕ) → EitherPart rules lo hi → Outside b e lo hi
         → (rs rs' : List Stepped) → Calls rules lo hi rs rs' → rs ≡ rs'
     pub pads : (rules : Rules) (lo hi : ℕ) → EitherPart rules lo hi → Outside b e lo hi
-        → (rs rs' : List Stepped) → Calls rules lo hi rs rs' → padsAfter rules (E .map) lo hi rs ≡ padsAfter rules (E' .map) lo hi rs'
+        → (rs rs' : List Stepped) → Calls rules lo hi rs rs'
+        → padsAfter (E .limit) rules (E .map) lo hi rs ≡ padsAfter (E' .limit) rules (E' .map) lo hi rs'
     pub annotations : (rules : Rules) (lo hi : ℕ) (v : Spans) → EitherValue rules lo hi v → (rs rs' : List (Outcome Annotated)) → length rs ≡ length rs'
         → AnnotationRun (E .annotation (v .descriptor)) (v .annotations) rs → AnnotationRun (E' .annotation (v .descriptor)) (v .annotations) rs'
         → rs ≡ rs'
@@ -160,4 +163,4 @@ module _ {ℓ} (E E' : Entries {ℓ}) (lo₀ hi₀ b e : ℕ) where
         → (rs rs' : List Stepped) → Calls rules lo hi rs rs' → Iff (List·Memᴰ i (items rs)) (List·Memᴰ i (items rs'))
     pub pad : (rules : Rules) (lo hi : ℕ) → EitherPart rules lo hi → (p : Pad) → p .body ≡ b → p .end ≡ e
         → (rs rs' : List Stepped) → Calls rules lo hi rs rs'
-        → Iff (List·Memᴰ p (padsAfter rules (E .map) lo hi rs)) (List·Memᴰ p (padsAfter rules (E' .map) lo hi rs'))
+        → Iff (List·Memᴰ p (padsAfter (E .limit) rules (E .map) lo hi rs)) (List·Memᴰ p (padsAfter (E' .limit) rules (E' .map) lo hi rs'))

@@ -3,11 +3,13 @@
 -- Assumes nothing.
 use Prim.Native.Nat.{ℕ, _-_, _≤_, _<_}
 use native.Mathlib.Omega.{arith}
+use mathlib.Core.Bool.{true, false}
 use mathlib.Core.Path.{_≡_, subst}
 use mathlib.Core.List.{List}
 use lib.ListN.{length}
 use Rattle.numbers.specs.Outcome.{Outcome, gives, refuses}
-use Rattle.numbers.proofs.Outcomes.{Proper, other, inside}
+use Rattle.numbers.proofs.Outcomes.{Proper, other, inside, by-case}
+use Rattle.framing.specs.Limits.{outOfRange}
 use Rattle.framing.specs.Spans.{Spans}
 use Rattle.stepping.specs.Items.{Item, finish}
 use Rattle.stepping.specs.Answers.{skipPads, Found, found, stepOf}
@@ -35,22 +37,27 @@ earlier l (stops d) = stops d
 not-outside : {A : Type 0} {n p : ℕ} → Proper {A = A} (refuses n p) → n ≡ 50 → ⊥
 not-outside (other d) = d
 
-module _ (rules : Rules) (s : List ℕ) (hi : ℕ) (k : hi ≤ length s) where
-  skipping-moves : {at : ℕ} {f : Found} → Skipping rules s hi at f → Moves at hi (f .answer)
+module _ (limit : ℕ) (rules : Rules) (s : List ℕ) (hi : ℕ) (k : hi ≤ length s) where
+  skipping-moves : {at : ℕ} {f : Found} → Skipping limit rules s hi at f → Moves at hi (f .answer)
   skipping-moves at-end = ends
-  skipping-moves (at-pad l h w) = let p = pad-ends rules s h in earlier (omega arith) (skipping-moves w)
-  skipping-moves (at-item l h) = hands (item-in rules s h)
-  skipping-moves (at-refusal {at} l h) = stops (not-outside (subst Proper h (tile-proper rules s at hi (omega arith) k)))
+  skipping-moves (at-pad l h w) = let p = pad-ends limit rules s h in earlier (omega arith) (skipping-moves w)
+  skipping-moves (at-item l h) = hands (item-in limit rules s h)
+  skipping-moves (at-refusal {at} l h) = stops (not-outside (subst Proper h (tile-proper limit rules s at hi (omega arith) k)))
 
-  pub moves : (at : ℕ) → at ≤ hi → Moves at hi (stepOf rules s (cursor at hi) .answer)
+  moves-unranged : (at : ℕ) → outOfRange limit ≡ true → Moves at hi (stepOf limit rules s (cursor at hi) .answer)
+  unfolding stepOf found
+  moves-unranged at g = rw g (stops (λ (e : _≡_ {A = ℕ} 68 50). omega arith))
+
+  pub moves : (at : ℕ) → at ≤ hi → Moves at hi (stepOf limit rules s (cursor at hi) .answer)
   unfolding stepOf
   moves at l =
-      let w = skipping rules s hi (hi - at) at l (omega arith) in
-      subst (λ (f : Found). Moves at hi (f .answer)) (of-skipping rules s hi l k w) (skipping-moves w)
+      let w = skipping limit rules s hi (hi - at) at l (omega arith) in
+      by-case (outOfRange limit) (λ g. moves-unranged at g) (λ g.
+      subst (λ (f : Found). Moves at hi (f .answer)) (of-skipping limit rules s hi g l k w) (skipping-moves w))
 
   -- at the part's end it is the end
-  pub moves-end : stepOf rules s (cursor hi hi) .answer ≡ gives (finish hi)
+  pub moves-end : outOfRange limit ≡ false → stepOf limit rules s (cursor hi hi) .answer ≡ gives (finish hi)
   unfolding stepOf found skipPads
-  moves-end =
+  moves-end g =
       let z : hi - hi ≡ 0 = omega arith in
-      rw (inside s hi hi (omega arith) k, z)
+      rw (g, inside s hi hi (omega arith) k, z)

@@ -12,6 +12,7 @@ use Rattle.numbers.specs.Outcome.{Outcome, gives, refuses, pick, andThen, outsi
 use Rattle.numbers.specs.Answers.{Unsigned, varUInt}
 use Rattle.numbers.proofs.Outcomes.{by-case, by-test, inside, inside-order, inside-end, refuse-same, refuse-first, then-then, then-like, Each, given, each-refuse, each-pick, each-then, each-of}
 use Rattle.numbers.proofs.Meaning.{var-uint-bounded}
+use Rattle.framing.specs.Limits.{outOfRange}
 use Rattle.framing.specs.Spans.{Spans}
 use Rattle.framing.specs.Answers.{Frame, padding, valued, readFrame}
 use Rattle.framing.proofs.Bounds.{FrameIn, pad-in, value-in, frame-each}
@@ -34,40 +35,40 @@ by-fields : (at id : ℕ) (f : Frame) → asField id at f ≡ tileBy Fields at i
 by-fields at id (padding p) = refl
 by-fields at id (valued v) = refl
 
-module _ (s : List ℕ) (at end : ℕ) where
-  named-field : (u : Unsigned) → namedAt s at end u ≡ andThen (followed end u) (tileBehind Fields s at end)
+module _ (limit : ℕ) (s : List ℕ) (at end : ℕ) where
+  named-field : (u : Unsigned) → namedAt limit s at end u ≡ andThen (followed end u) (tileBehind limit Fields s at end)
   unfolding namedAt followed tileBehind
   named-field u =
-      refuse-same (eqb (u .next) end) 7 end (λ _. then-like (readFrame s (u .next) end) (by-fields at (u .value)))
-      ∙ sym (refuse-first (eqb (u .next) end) 7 end (gives u) (tileBehind Fields s at end))
+      refuse-same (eqb (u .next) end) 7 end (λ _. then-like (readFrame limit s (u .next) end) (by-fields at (u .value)))
+      ∙ sym (refuse-first (eqb (u .next) end) 7 end (gives u) (tileBehind limit Fields s at end))
 
   -- what stands where no marker begins
   unnamed : (rules : Rules) → Outcome Tile
-  unnamed Stream = framedAt s at end
-  unnamed Sequence = framedAt s at end
-  unnamed Fields = fieldAt s at end
+  unnamed Stream = framedAt limit s at end
+  unnamed Sequence = framedAt limit s at end
+  unnamed Fields = fieldAt limit s at end
 
-  named : (rules : Rules) → unnamed rules ≡ andThen (nameAt rules s at end) (tileBehind rules s at end)
+  named : (rules : Rules) → unnamed rules ≡ andThen (nameAt rules s at end) (tileBehind limit rules s at end)
   unfolding unnamed framedAt fieldAt fieldId tileBehind
-  named Stream = then-like (readFrame s at end) (by-itself Stream at (λ v. refl))
-  named Sequence = then-like (readFrame s at end) (by-itself Sequence at (λ v. refl))
+  named Stream = then-like (readFrame limit s at end) (by-itself Stream at (λ v. refl))
+  named Sequence = then-like (readFrame limit s at end) (by-itself Sequence at (λ v. refl))
   named Fields =
-      then-like (varUInt s at end) named-field ∙ sym (then-then (varUInt s at end) (followed end) (tileBehind Fields s at end))
+      then-like (varUInt s at end) named-field ∙ sym (then-then (varUInt s at end) (followed end) (tileBehind limit Fields s at end))
 
-  by-marker : (rules : Rules) → tileAt rules s at end ≡ pick (isMarker rules (getD s at 0)) (markerAt s at end) (unnamed rules)
+  by-marker : (rules : Rules) → tileAt limit rules s at end ≡ pick (isMarker rules (getD s at 0)) (markerAt s at end) (unnamed rules)
   unfolding tileAt unnamed
   by-marker Stream = refl
   by-marker Sequence = refl
   by-marker Fields = refl
 
-  pub tile-named : (rules : Rules) → isMarker rules (getD s at 0) ≡ false → tileAt rules s at end ≡ andThen (nameAt rules s at end) (tileBehind rules s at end)
+  pub tile-named : (rules : Rules) → isMarker rules (getD s at 0) ≡ false → tileAt limit rules s at end ≡ andThen (nameAt rules s at end) (tileBehind limit rules s at end)
   tile-named rules e =
-      let chosen : tileAt rules s at end ≡ unnamed rules = by-marker rules ∙ (rw e) in chosen ∙ named rules
+      let chosen : tileAt limit rules s at end ≡ unnamed rules = by-marker rules ∙ (rw e) in chosen ∙ named rules
 
-  pub tile-from : (rules : Rules) (u : Unsigned) → nameFrom rules s at end u ≡ nameAt rules s at end → tileFrom rules s at end u ≡ tileAt rules s at end
+  pub tile-from : (rules : Rules) (u : Unsigned) → nameFrom rules s at end u ≡ nameAt rules s at end → tileFrom limit rules s at end u ≡ tileAt limit rules s at end
   unfolding tileFrom
   tile-from rules u e =
-      let q : andThen (nameFrom rules s at end u) (tileBehind rules s at end) ≡ unnamed rules = (rw e) ∙ sym (named rules) in
+      let q : andThen (nameFrom rules s at end u) (tileBehind limit rules s at end) ≡ unnamed rules = (rw e) ∙ sym (named rules) in
       (rw q) ∙ sym (by-marker rules)
 
 -- ---- a name that was read, and one that was not
@@ -113,90 +114,104 @@ marked-onward s at end =
     each-refuse (not (eqb (getD s (at + 3) 0) 234)) 21 at (λ _.
     each-refuse (not (versionPasses (getD s (at + 1) 0) (getD s (at + 2) 0))) 60 at (λ _. given hands)))
 
-tile-onward : (rules : Rules) (s : List ℕ) (at end : ℕ) (u : Unsigned) → Each (Onward at end) (tileFrom rules s at end u)
+tile-onward : (limit : ℕ) (rules : Rules) (s : List ℕ) (at end : ℕ) (u : Unsigned) → Each (Onward at end) (tileFrom limit rules s at end u)
 unfolding tileFrom tileBehind
-tile-onward rules s at end u =
+tile-onward limit rules s at end u =
     each-pick (isMarker rules (getD s at 0)) (λ _. marked-onward s at end) (λ _.
     each-then (name-from-each rules s at end u) (λ w r.
-    each-then (frame-each s (w .next) end) (λ f i. framed-onward rules at (w .next) end (w .value) (r .reaches) i)))
+    each-then (frame-each limit s (w .next) end) (λ f i. framed-onward rules at (w .next) end (w .value) (r .reaches) i)))
 
 skips-on : {at end b e : ℕ} → Onward at end (skip b e) → (at < e) × (e ≤ end)
 skips-on (skips p q) = (p, q)
 
-pub pad-onward : (rules : Rules) (s : List ℕ) (at end : ℕ) (u : Unsigned) {b e : ℕ} → tileFrom rules s at end u ≡ gives (skip b e) → (at < e) × (e ≤ end)
-pad-onward rules s at end u q = skips-on (each-of (tile-onward rules s at end u) q)
+pub pad-onward : (limit : ℕ) (rules : Rules) (s : List ℕ) (at end : ℕ) (u : Unsigned) {b e : ℕ} → tileFrom limit rules s at end u ≡ gives (skip b e) → (at < e) × (e ≤ end)
+pad-onward limit rules s at end u q = skips-on (each-of (tile-onward limit rules s at end u) q)
 
 -- ---- a step that is entered behind a name
 
 -- with more fuel than a part's length a step passes the pads as it does
-skip-pads-found : (rules : Rules) (s : List ℕ) (k at end : ℕ) → at ≤ end → end ≤ length s → end - at ≤ k → skipPads k rules s end at ≡ found rules s (record { at = at; end = end })
-skip-pads-found rules s k at end l m f = of-skipping rules s end l m (skipping rules s end k at l f)
+skip-pads-found : (limit : ℕ) (rules : Rules) (s : List ℕ) (k at end : ℕ) → outOfRange limit ≡ false → at ≤ end → end ≤ length s → end - at ≤ k → skipPads limit k rules s end at ≡ found limit rules s (record { at = at; end = end })
+skip-pads-found limit rules s k at end g l m f = of-skipping limit rules s end g l m (skipping limit rules s end k at l f)
 
-module _ (rules : Rules) (s : List ℕ) (at end : ℕ) (u : Unsigned) where
-  from-outside : outsideOf s at end ≡ true → foundFrom rules s at end u ≡ found rules s (record { at = at; end = end })
+module _ (limit : ℕ) (rules : Rules) (s : List ℕ) (at end : ℕ) (u : Unsigned) where
+  from-unranged : outOfRange limit ≡ true → foundFrom limit rules s at end u ≡ found limit rules s (record { at = at; end = end })
+  unfolding foundFrom found
+  from-unranged g = rw g
+
+  from-outside : outsideOf s at end ≡ true → foundFrom limit rules s at end u ≡ found limit rules s (record { at = at; end = end })
   unfolding foundFrom found
   from-outside o = rw o
 
-  from-tile : outsideOf s at end ≡ false → at < end → nameFrom rules s at end u ≡ nameAt rules s at end → foundFrom rules s at end u ≡ skipPads (suc (end - at)) rules s end at
+  from-tile : outOfRange limit ≡ false → outsideOf s at end ≡ false → at < end → nameFrom rules s at end u ≡ nameAt rules s at end → foundFrom limit rules s at end u ≡ skipPads limit (suc (end - at)) rules s end at
   unfolding foundFrom skipPads
-  from-tile o l e = rw (o, lt-ltb at end l, tile-from s at end rules u e)
+  from-tile g o l e = rw (g, o, lt-ltb at end l, tile-from limit s at end rules u e)
 
-  from-end : outsideOf s at end ≡ false → end ≤ at → foundFrom rules s at end u ≡ skipPads (suc (end - at)) rules s end at
+  from-end : outOfRange limit ≡ false → outsideOf s at end ≡ false → end ≤ at → foundFrom limit rules s at end u ≡ skipPads limit (suc (end - at)) rules s end at
   unfolding foundFrom skipPads
-  from-end o h = rw (o, le-ltb at end h)
+  from-end g o h = rw (g, o, le-ltb at end h)
 
   -- it is the step, where the name that was read is the name
-  pub found-from : (at < end → nameFrom rules s at end u ≡ nameAt rules s at end) → foundFrom rules s at end u ≡ found rules s (record { at = at; end = end })
-  found-from name = by-case (outsideOf s at end) from-outside (λ o. within o ∙ skip-pads-found rules s (suc (end - at)) at end (inside-order s at end o) (inside-end s at end o) (omega arith))
+  pub found-from : (at < end → nameFrom rules s at end u ≡ nameAt rules s at end) → foundFrom limit rules s at end u ≡ found limit rules s (record { at = at; end = end })
+  found-from name =
+      by-case (outOfRange limit) from-unranged (λ g.
+      by-case (outsideOf s at end) from-outside (λ o. within g o ∙ skip-pads-found limit rules s (suc (end - at)) at end g (inside-order s at end o) (inside-end s at end o) (omega arith)))
     where
-      within : outsideOf s at end ≡ false → foundFrom rules s at end u ≡ skipPads (suc (end - at)) rules s end at
-      within o =
-          by-case (ltb at end) (λ t. from-tile o (ltb-true at end t) (name (ltb-true at end t))) (λ t. from-end o (ltb-false at end t))
+      within : outOfRange limit ≡ false → outsideOf s at end ≡ false → foundFrom limit rules s at end u ≡ skipPads limit (suc (end - at)) rules s end at
+      within g o =
+          by-case (ltb at end) (λ t. from-tile g o (ltb-true at end t) (name (ltb-true at end t))) (λ t. from-end g o (ltb-false at end t))
 
-  pub answer-from : (at < end → nameFrom rules s at end u ≡ nameAt rules s at end) → answerFrom rules s at end u ≡ answerAt rules s at end
+  pub answer-from : (at < end → nameFrom rules s at end u ≡ nameAt rules s at end) → answerFrom limit rules s at end u ≡ answerAt limit rules s at end
   unfolding stepOf
   answer-from name = ap (λ (f : Found). f .answer) (found-from name)
 
 -- a step of whose name nothing is read
-pub answer-unread : (rules : Rules) (s : List ℕ) (at end id : ℕ) → answerFrom rules s at end (record { value = id; next = at }) ≡ answerAt rules s at end
-answer-unread rules s at end id =
-    answer-from rules s at end (record { value = id; next = at }) (λ _. name-unread rules s at end (record { value = id; next = at }) (omega arith))
+pub answer-unread : (limit : ℕ) (rules : Rules) (s : List ℕ) (at end id : ℕ) → answerFrom limit rules s at end (record { value = id; next = at }) ≡ answerAt limit rules s at end
+answer-unread limit rules s at end id =
+    answer-from limit rules s at end (record { value = id; next = at }) (λ _. name-unread rules s at end (record { value = id; next = at }) (omega arith))
 
 -- what it answers where a tile stands that is no pad, behind a pad, outside the slice, and at the part's end
-module _ (rules : Rules) (s : List ℕ) (at end : ℕ) (u : Unsigned) (l : at < end) (m : end ≤ length s) where
-  entered : foundFrom rules s at end u ≡ onTile at (skipPads (end - at) rules s end) (tileFrom rules s at end u)
+module _ (limit : ℕ) (rules : Rules) (s : List ℕ) (at end : ℕ) (u : Unsigned) (g : outOfRange limit ≡ false) (l : at < end) (m : end ≤ length s) where
+  entered : foundFrom limit rules s at end u ≡ onTile at (skipPads limit (end - at) rules s end) (tileFrom limit rules s at end u)
   unfolding foundFrom
-  entered = rw (inside s at end (omega arith) m, lt-ltb at end l)
+  entered = rw (g, inside s at end (omega arith) m, lt-ltb at end l)
 
-  on-item : (o : Outcome Item) → onTile at (skipPads (end - at) rules s end) (andThen o handed) .answer ≡ o
+  on-item : (o : Outcome Item) → onTile at (skipPads limit (end - at) rules s end) (andThen o handed) .answer ≡ o
   on-item (gives i) = refl
   on-item (refuses n p) = refl
 
-  pub from-item : (o : Outcome Item) → andThen o handed ≡ tileFrom rules s at end u → o ≡ answerFrom rules s at end u
+  pub from-item : (o : Outcome Item) → andThen o handed ≡ tileFrom limit rules s at end u → o ≡ answerFrom limit rules s at end u
   from-item o h =
       sym (on-item o)
-      ∙ ap (λ (t : Outcome Tile). onTile at (skipPads (end - at) rules s end) t .answer) h
+      ∙ ap (λ (t : Outcome Tile). onTile at (skipPads limit (end - at) rules s end) t .answer) h
       ∙ sym (ap (λ (f : Found). f .answer) entered)
 
-  pub from-pad : (id b e : ℕ) → tileFrom rules s at end u ≡ gives (skip b e) → answerFrom rules s e end (record { value = id; next = e }) ≡ answerFrom rules s at end u
+  pub from-pad : (id b e : ℕ) → tileFrom limit rules s at end u ≡ gives (skip b e) → answerFrom limit rules s e end (record { value = id; next = e }) ≡ answerFrom limit rules s at end u
   unfolding stepOf
   from-pad id b e h =
-      let p = pad-onward rules s at end u h in
-      answer-unread rules s e end id
-      ∙ sym (ap (λ (f : Found). f .answer) (skip-pads-found rules s (end - at) e end (p .1) m (omega (arith, p .0))))
-      ∙ sym (ap (λ (t : Outcome Tile). onTile at (skipPads (end - at) rules s end) t .answer) h)
+      let p = pad-onward limit rules s at end u h in
+      answer-unread limit rules s e end id
+      ∙ sym (ap (λ (f : Found). f .answer) (skip-pads-found limit rules s (end - at) e end g (p .1) m (omega (arith, p .0))))
+      ∙ sym (ap (λ (t : Outcome Tile). onTile at (skipPads limit (end - at) rules s end) t .answer) h)
       ∙ sym (ap (λ (f : Found). f .answer) entered)
 
-outside-stop : (rules : Rules) (s : List ℕ) (at end : ℕ) (u : Unsigned) → outsideOf s at end ≡ true → foundFrom rules s at end u ≡ stop (refuses 50 0)
+outside-stop : (limit : ℕ) (rules : Rules) (s : List ℕ) (at end : ℕ) (u : Unsigned) → outOfRange limit ≡ false → outsideOf s at end ≡ true → foundFrom limit rules s at end u ≡ stop (refuses 50 0)
 unfolding foundFrom
-outside-stop rules s at end u o = rw o
+outside-stop limit rules s at end u g o = rw (g, o)
 
-pub from-nowhere : (rules : Rules) (s : List ℕ) (at end : ℕ) (u : Unsigned) → outsideOf s at end ≡ true → refuses 50 0 ≡ answerFrom rules s at end u
-from-nowhere rules s at end u o = sym (ap (λ (f : Found). f .answer) (outside-stop rules s at end u o))
-
-from-stop : (rules : Rules) (s : List ℕ) (end : ℕ) (u : Unsigned) → end ≤ length s → foundFrom rules s end end u ≡ stop (gives (finish end))
+-- and with a limit that is none
+unranged-stop : (limit : ℕ) (rules : Rules) (s : List ℕ) (at end : ℕ) (u : Unsigned) → outOfRange limit ≡ true → foundFrom limit rules s at end u ≡ stop (refuses 68 0)
 unfolding foundFrom
-from-stop rules s end u m = rw (inside s end end (omega arith) m, le-ltb end end (omega arith))
+unranged-stop limit rules s at end u g = rw g
 
-pub from-part-end : (rules : Rules) (s : List ℕ) (end : ℕ) (u : Unsigned) → end ≤ length s → gives (finish end) ≡ answerFrom rules s end end u
-from-part-end rules s end u m = sym (ap (λ (f : Found). f .answer) (from-stop rules s end u m))
+pub from-unlimited : (limit : ℕ) (rules : Rules) (s : List ℕ) (at end : ℕ) (u : Unsigned) → outOfRange limit ≡ true → refuses 68 0 ≡ answerFrom limit rules s at end u
+from-unlimited limit rules s at end u g = sym (ap (λ (f : Found). f .answer) (unranged-stop limit rules s at end u g))
+
+pub from-nowhere : (limit : ℕ) (rules : Rules) (s : List ℕ) (at end : ℕ) (u : Unsigned) → outOfRange limit ≡ false → outsideOf s at end ≡ true → refuses 50 0 ≡ answerFrom limit rules s at end u
+from-nowhere limit rules s at end u g o = sym (ap (λ (f : Found). f .answer) (outside-stop limit rules s at end u g o))
+
+from-stop : (limit : ℕ) (rules : Rules) (s : List ℕ) (end : ℕ) (u : Unsigned) → outOfRange limit ≡ false → end ≤ length s → foundFrom limit rules s end end u ≡ stop (gives (finish end))
+unfolding foundFrom
+from-stop limit rules s end u g m = rw (g, inside s end end (omega arith) m, le-ltb end end (omega arith))
+
+pub from-part-end : (limit : ℕ) (rules : Rules) (s : List ℕ) (end : ℕ) (u : Unsigned) → outOfRange limit ≡ false → end ≤ length s → gives (finish end) ≡ answerFrom limit rules s end end u
+from-part-end limit rules s end u g m = sym (ap (λ (f : Found). f .answer) (from-stop limit rules s end u g m))

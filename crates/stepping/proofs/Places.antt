@@ -53,19 +53,19 @@ framed-each at next end h (value-in {v} o) id =
     let r : ValueIn at end v = record { low = omega (arith, o .annotated, o .described); bodied = o .bodied; ended = o .ended; within = o .within } in
     (given (hand-in (a-value r)), given (hand-in (a-field r)))
 
-tile-each : (rules : Rules) (s : List ℕ) (at end : ℕ) → Each (TileIn at end) (tileAt rules s at end)
+tile-each : (limit : ℕ) (rules : Rules) (s : List ℕ) (at end : ℕ) → Each (TileIn at end) (tileAt limit rules s at end)
 unfolding tileAt framedAt fieldAt namedAt
-tile-each Stream s at end =
+tile-each limit Stream s at end =
     each-pick (eqb (getD s at 0) 224) (λ _. marker-each s at end)
-    (λ _. each-then (frame-each s at end) (λ f i. framed-each at at end (omega arith) i 0 .0))
-tile-each Sequence s at end = each-then (frame-each s at end) (λ f i. framed-each at at end (omega arith) i 0 .0)
-tile-each Fields s at end =
+    (λ _. each-then (frame-each limit s at end) (λ f i. framed-each at at end (omega arith) i 0 .0))
+tile-each limit Sequence s at end = each-then (frame-each limit s at end) (λ f i. framed-each at at end (omega arith) i 0 .0)
+tile-each limit Fields s at end =
     each-then (var-uint-bounded s at end) (λ u b.
     each-refuse (eqb (u .next) end) 7 end (λ _.
-    each-then (frame-each s (u .next) end) (λ f i. framed-each at (u .next) end (omega (arith, b .begins)) i (u .value) .1)))
+    each-then (frame-each limit s (u .next) end) (λ f i. framed-each at (u .next) end (omega (arith, b .begins)) i (u .value) .1)))
 
-pub tile-in : (rules : Rules) (s : List ℕ) (at end : ℕ) {t : Tile} → tileAt rules s at end ≡ gives t → TileIn at end t
-tile-in rules s at end q = each-of (tile-each rules s at end) q
+pub tile-in : (limit : ℕ) (rules : Rules) (s : List ℕ) (at end : ℕ) {t : Tile} → tileAt limit rules s at end ≡ gives t → TileIn at end t
+tile-in limit rules s at end q = each-of (tile-each limit rules s at end) q
 
 skip-bounds : {at end b e : ℕ} → TileIn at end (skip b e) → (at < b) × (b ≤ e) × (e ≤ end)
 skip-bounds (skip-in p q r) = (p, q, r)
@@ -81,27 +81,27 @@ in-ends (a-marker p q) = (p, q)
 in-ends (a-value v) = value-ends v
 in-ends (a-field v) = value-ends v
 
-pub pad-ends : (rules : Rules) (s : List ℕ) {at end b e : ℕ} → tileAt rules s at end ≡ gives (skip b e) → (at < b) × (b ≤ e) × (e ≤ end)
-pad-ends rules s {at} {end} q = skip-bounds (tile-in rules s at end q)
+pub pad-ends : (limit : ℕ) (rules : Rules) (s : List ℕ) {at end b e : ℕ} → tileAt limit rules s at end ≡ gives (skip b e) → (at < b) × (b ≤ e) × (e ≤ end)
+pad-ends limit rules s {at} {end} q = skip-bounds (tile-in limit rules s at end q)
 
-pub item-in : (rules : Rules) (s : List ℕ) {at end : ℕ} {i : Item} → tileAt rules s at end ≡ gives (hand i) → ItemIn at end i
-item-in rules s {at} {end} q = hand-item (tile-in rules s at end q)
+pub item-in : (limit : ℕ) (rules : Rules) (s : List ℕ) {at end : ℕ} {i : Item} → tileAt limit rules s at end ≡ gives (hand i) → ItemIn at end i
+item-in limit rules s {at} {end} q = hand-item (tile-in limit rules s at end q)
 
 -- in a part of the slice nothing is refused with 50
 frame-as-tile : (f : Frame) (id at : ℕ) → Proper (asTile f) × Proper (asField id at f)
 frame-as-tile (padding p) id at = (gave, gave)
 frame-as-tile (valued v) id at = (gave, gave)
 
-pub tile-proper : (rules : Rules) (s : List ℕ) (at end : ℕ) → at ≤ end → end ≤ length s → Proper (tileAt rules s at end)
+pub tile-proper : (limit : ℕ) (rules : Rules) (s : List ℕ) (at end : ℕ) → at ≤ end → end ≤ length s → Proper (tileAt limit rules s at end)
 unfolding tileAt framedAt fieldAt namedAt markerAt
-tile-proper Stream s at end h k =
+tile-proper limit Stream s at end h k =
     proper-pick (eqb (getD s at 0) 224)
     (proper-refuse (ltb (end - at) 4) 2 at (λ e. omega arith) (λ _.
     proper-refuse (not (eqb (getD s (at + 3) 0) 234)) 21 at (λ e. omega arith) (λ _.
     proper-refuse (not (versionPasses (getD s (at + 1) 0) (getD s (at + 2) 0))) 60 at (λ e. omega arith) (λ _. gave))))
-    (proper-then (frame-each s at end) (frame-proper s end k at h) (λ f i. frame-as-tile f 0 at .0))
-tile-proper Sequence s at end h k = proper-then (frame-each s at end) (frame-proper s end k at h) (λ f i. frame-as-tile f 0 at .0)
-tile-proper Fields s at end h k =
+    (proper-then (frame-each limit s at end) (frame-proper limit s end k at h) (λ f i. frame-as-tile f 0 at .0))
+tile-proper limit Sequence s at end h k = proper-then (frame-each limit s at end) (frame-proper limit s end k at h) (λ f i. frame-as-tile f 0 at .0)
+tile-proper limit Fields s at end h k =
     proper-then (var-uint-bounded s at end) (var-uint-proper s at end h k) (λ u b.
     proper-refuse (eqb (u .next) end) 7 end (λ e. omega arith) (λ _.
-    proper-then (frame-each s (u .next) end) (frame-proper s end k (u .next) (b .ends)) (λ f i. frame-as-tile f (u .value) at .1)))
+    proper-then (frame-each limit s (u .next) end) (frame-proper limit s end k (u .next) (b .ends)) (λ f i. frame-as-tile f (u .value) at .1)))

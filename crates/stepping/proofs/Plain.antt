@@ -12,6 +12,7 @@ use Rattle.numbers.specs.Outcome.{Outcome, gives, refuses}
 use Rattle.numbers.specs.Answers.{Unsigned}
 use Rattle.numbers.proofs.Outcomes.{Each, given, each-refuse, each-then, each-of}
 use Rattle.numbers.proofs.Meaning.{var-uint-bounded}
+use Rattle.framing.specs.Limits.{outOfRange}
 use Rattle.framing.specs.Spans.{Spans}
 use Rattle.framing.specs.Answers.{readValue}
 use Rattle.framing.specs.ShortValue.{shortValue, shortValueOf}
@@ -38,13 +39,12 @@ name-each Fields s at end l =
     each-refuse (eqb (u .next) end) 7 end (λ e.
     given {a = u} (record { low = omega (arith, b .begins); high = omega (arith, b .ends, eqb-false (u .next) end e) })))
 
-module _ (rules : Rules) (s : List ℕ) (at end : ℕ) (l : at < end) (u : Unsigned) (name : nameAt rules s at end ≡ gives u) where
-  pub name-in : NameIn at end u
-  name-in = each-of (name-each rules s at end l) name
+pub name-in : (rules : Rules) (s : List ℕ) (at end : ℕ) → at < end → (u : Unsigned) → nameAt rules s at end ≡ gives u → NameIn at end u
+name-in rules s at end l u name = each-of (name-each rules s at end l) name
 
-  -- whatever stands behind the name
-  pub named-stepped : answerFrom rules s at end u ≡ answerAt rules s at end
-  named-stepped = answer-from rules s at end u (λ _. name-read rules s at end u name)
+-- whatever stands behind the name
+pub named-stepped : (limit : ℕ) (rules : Rules) (s : List ℕ) (at end : ℕ) (u : Unsigned) → nameAt rules s at end ≡ gives u → answerFrom limit rules s at end u ≡ answerAt limit rules s at end
+named-stepped limit rules s at end u name = answer-from limit rules s at end u (λ _. name-read rules s at end u name)
 
 -- where a name ends
 abbrev nextIn : Outcome Unsigned → ℕ
@@ -60,16 +60,16 @@ unmarked Stream s at end u name h =
 unmarked Sequence s at end u name h = refl
 unmarked Fields s at end u name h = refl
 
-module _ (rules : Rules) (s : List ℕ) (at end : ℕ) (l : at < end) (m : end ≤ length s) where
+module _ (limit : ℕ) (rules : Rules) (s : List ℕ) (at end : ℕ) (g : outOfRange limit ≡ false) (l : at < end) (m : end ≤ length s) where
   -- a short value behind the name
-  pub short-stepped : (u : Unsigned) → nameAt rules s at end ≡ gives u → (v : Spans) → shortValueOf (u .next) (readValue s (u .next) end) ≡ shortValue v → answerAt rules s at end ≡ gives (itemBy rules at (u .value) v)
+  pub short-stepped : (u : Unsigned) → nameAt rules s at end ≡ gives u → (v : Spans) → shortValueOf (u .next) (readValue limit s (u .next) end) ≡ shortValue v → answerAt limit rules s at end ≡ gives (itemBy rules at (u .value) v)
   unfolding tileBehind
   short-stepped u name v e =
       let i : Item = itemBy rules at (u .value) v in
-      let n : isMarker rules (getD s at 0) ≡ false = unmarked rules s at end u name (short-bounds s (u .next) end e .low) in
-      let frame = short-framed s (u .next) end e in
-      let tile : gives (hand i) ≡ tileAt rules s at end = sym (tile-named s at end rules n ∙ (rw (name, frame))) in
-      sym (answer-is rules s at end (gives i) (stop (gives i)) (omega arith) m (answered rules s at end (gives i) l tile) refl)
+      let n : isMarker rules (getD s at 0) ≡ false = unmarked rules s at end u name (short-bounds limit s (u .next) end e .low) in
+      let frame = short-framed limit s (u .next) end e in
+      let tile : gives (hand i) ≡ tileAt limit rules s at end = sym (tile-named limit s at end rules n ∙ (rw (name, frame))) in
+      sym (answer-is limit rules s at end (gives i) (stop (gives i)) g (omega arith) m (answered limit rules s at end (gives i) l tile) refl)
 
   -- only a struct's name is refused
   refused-unmarked : (r : Rules) {number position : ℕ} → nameAt r s at end ≡ refuses number position → isMarker r (getD s at 0) ≡ false
@@ -78,7 +78,7 @@ module _ (rules : Rules) (s : List ℕ) (at end : ℕ) (l : at < end) (m : end �
   refused-unmarked Fields e = refl
 
   -- the name's refusal
-  pub unnamed-stepped : {number position : ℕ} → nameAt rules s at end ≡ refuses number position → answerAt rules s at end ≡ refuses number position
+  pub unnamed-stepped : {number position : ℕ} → nameAt rules s at end ≡ refuses number position → answerAt limit rules s at end ≡ refuses number position
   unnamed-stepped {number} {position} name =
-      let tile : refuses number position ≡ tileAt rules s at end = sym (tile-named s at end rules (refused-unmarked rules name) ∙ (rw name)) in
-      sym (answer-is rules s at end (refuses number position) (stop (refuses number position)) (omega arith) m (answered rules s at end (refuses number position) l tile) refl)
+      let tile : refuses number position ≡ tileAt limit rules s at end = sym (tile-named limit s at end rules (refused-unmarked rules name) ∙ (rw name)) in
+      sym (answer-is limit rules s at end (refuses number position) (stop (refuses number position)) g (omega arith) m (answered limit rules s at end (refuses number position) l tile) refl)

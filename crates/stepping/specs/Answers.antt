@@ -7,6 +7,7 @@ use lib.ListN.{getD}
 use lib.Dec.{ltb, eqb}
 use Rattle.numbers.specs.Outcome.{Outcome, gives, refuses, pick, refuseIf, andThen, outsideOf}
 use Rattle.numbers.specs.Answers.{Unsigned, varUInt}
+use Rattle.framing.specs.Limits.{outOfRange}
 use Rattle.framing.specs.Answers.{Frame, padding, valued, readFrame}
 use Rattle.stepping.specs.Items.{Item, finish, marker, value, field, itemEnd, Pad}
 use Rattle.stepping.specs.declared.cursor.Cursor.{Cursor}
@@ -35,25 +36,25 @@ asTile (padding p) = gives (skip (p .body) (p .end))
 asTile (valued v) = gives (hand (value v))
 
 -- a pad or a value; E0 here is refusal 22
-unfoldable pub framedAt : List ℕ → ℕ → ℕ → Outcome Tile
-framedAt s at end = andThen (readFrame s at end) asTile
+unfoldable pub framedAt : ℕ → List ℕ → ℕ → ℕ → Outcome Tile
+framedAt limit s at end = andThen (readFrame limit s at end) asTile
 
 abbrev pub asField : ℕ → ℕ → Frame → Outcome Tile
 asField id at (padding p) = gives (skip (p .body) (p .end))
 asField id at (valued v) = gives (hand (field id at v))
 
 -- "In a struct each item and each pad follows a field ID": 7 where nothing follows it
-unfoldable pub namedAt : List ℕ → ℕ → ℕ → Unsigned → Outcome Tile
-namedAt s at end u = refuseIf (eqb (u .next) end) 7 end (andThen (readFrame s (u .next) end) (asField (u .value) at))
+unfoldable pub namedAt : ℕ → List ℕ → ℕ → ℕ → Unsigned → Outcome Tile
+namedAt limit s at end u = refuseIf (eqb (u .next) end) 7 end (andThen (readFrame limit s (u .next) end) (asField (u .value) at))
 
-unfoldable pub fieldAt : List ℕ → ℕ → ℕ → Outcome Tile
-fieldAt s at end = andThen (varUInt s at end) (namedAt s at end)
+unfoldable pub fieldAt : ℕ → List ℕ → ℕ → ℕ → Outcome Tile
+fieldAt limit s at end = andThen (varUInt s at end) (namedAt limit s at end)
 
 -- by the rules of the part: in a stream E0 begins a marker
-unfoldable pub tileAt : Rules → List ℕ → ℕ → ℕ → Outcome Tile
-tileAt Stream s at end = pick (eqb (getD s at 0) 224) (markerAt s at end) (framedAt s at end)
-tileAt Sequence s at end = framedAt s at end
-tileAt Fields s at end = fieldAt s at end
+unfoldable pub tileAt : ℕ → Rules → List ℕ → ℕ → ℕ → Outcome Tile
+tileAt limit Stream s at end = pick (eqb (getD s at 0) 224) (markerAt s at end) (framedAt limit s at end)
+tileAt limit Sequence s at end = framedAt limit s at end
+tileAt limit Fields s at end = fieldAt limit s at end
 
 -- what a step finds: the pads that it passes, in order, and its answer
 pub record Found : Type 0 where
@@ -73,14 +74,19 @@ onTile at go (gives (hand i)) = stop (gives i)
 onTile at go (refuses number position) = stop (refuses number position)
 
 -- "Skip pads; then marker, value or end", from `at` on, over at most k tiles: the part's length is enough. "The end's position is the end of the part stepped."
-unfoldable pub skipPads : ℕ → Rules → List ℕ → ℕ → ℕ → Found
-skipPads zero rules s end at = stop (gives (finish end))
-skipPads (suc k) rules s end at =
-    pick (ltb at end) (onTile at (skipPads k rules s end) (tileAt rules s at end)) (stop (gives (finish end)))
+unfoldable pub skipPads : ℕ → ℕ → Rules → List ℕ → ℕ → ℕ → Found
+skipPads limit zero rules s end at = stop (gives (finish end))
+skipPads limit (suc k) rules s end at =
+    pick (ltb at end) (onTile at (skipPads limit k rules s end) (tileAt limit rules s at end)) (stop (gives (finish end)))
 
-unfoldable pub found : Rules → List ℕ → Cursor → Found
-found rules s c =
-    pick (outsideOf s (c .at) (c .end)) (stop (refuses 50 0)) (skipPads (c .end - c .at) rules s (c .end) (c .at))
+-- 68 "a parameter outside its range", "before 50, position 0", by the change request A.9: then the step finds that alone
+abbrev pub limitedFound : ℕ → Found → Found
+limitedFound limit f = pick (outOfRange limit) (stop (refuses 68 0)) f
+
+unfoldable pub found : ℕ → Rules → List ℕ → Cursor → Found
+found limit rules s c =
+    limitedFound limit
+    (pick (outsideOf s (c .at) (c .end)) (stop (refuses 50 0)) (skipPads limit (c .end - c .at) rules s (c .end) (c .at)))
 
 -- "The cursor that the call before returned, which after a refusal is the one it was given": past the item, and at the part's end after the end
 abbrev pub after : Cursor → Outcome Item → Cursor
@@ -92,9 +98,9 @@ pub record Stepped : Type 0 where
   pub answer : Outcome Item
   pub next : Cursor
 
-unfoldable pub stepOf : Rules → List ℕ → Cursor → Stepped
-stepOf rules s c = record { answer = found rules s c .answer; next = after c (found rules s c .answer) }
+unfoldable pub stepOf : ℕ → Rules → List ℕ → Cursor → Stepped
+stepOf limit rules s c = record { answer = found limit rules s c .answer; next = after c (found limit rules s c .answer) }
 
 -- what the step at `at` in the part that ends at hi answers
-abbrev pub answerAt : Rules → List ℕ → ℕ → ℕ → Outcome Item
-answerAt rules s at hi = stepOf rules s (record { at = at; end = hi }) .answer
+abbrev pub answerAt : ℕ → Rules → List ℕ → ℕ → ℕ → Outcome Item
+answerAt limit rules s at hi = stepOf limit rules s (record { at = at; end = hi }) .answer

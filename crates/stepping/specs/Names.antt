@@ -11,7 +11,7 @@ use Rattle.numbers.specs.Answers.{Unsigned, varUInt}
 use Rattle.framing.specs.Spans.{Spans}
 use Rattle.framing.specs.Answers.{Frame, padding, valued, readFrame}
 use Rattle.stepping.specs.Items.{Item, finish, value, field}
-use Rattle.stepping.specs.Answers.{Tile, skip, hand, markerAt, Found, stop, onTile, skipPads}
+use Rattle.stepping.specs.Answers.{Tile, skip, hand, markerAt, Found, stop, onTile, skipPads, limitedFound}
 use Rattle.stepping.specs.declared.cursor.Rules.{Rules}
 use Rattle.stepping.specs.declared.cursor.Rules.the-variants.{Stream, Sequence, Fields}
 
@@ -43,8 +43,8 @@ tileBy rules at id (padding p) = gives (skip (p .body) (p .end))
 tileBy rules at id (valued v) = gives (hand (itemBy rules at id v))
 
 -- what stands behind the name u of what begins at `at`
-unfoldable pub tileBehind : Rules → List ℕ → ℕ → ℕ → Unsigned → Outcome Tile
-tileBehind rules s at end u = andThen (readFrame s (u .next) end) (tileBy rules at (u .value))
+unfoldable pub tileBehind : ℕ → Rules → List ℕ → ℕ → ℕ → Unsigned → Outcome Tile
+tileBehind limit rules s at end u = andThen (readFrame limit s (u .next) end) (tileBy rules at (u .value))
 
 -- a byte that begins a marker: only in a stream
 abbrev pub isMarker : Rules → ℕ → Bool
@@ -52,16 +52,17 @@ isMarker Stream byte = eqb byte 224
 isMarker Sequence byte = false
 isMarker Fields byte = false
 
-unfoldable pub tileFrom : Rules → List ℕ → ℕ → ℕ → Unsigned → Outcome Tile
-tileFrom rules s at end u =
+unfoldable pub tileFrom : ℕ → Rules → List ℕ → ℕ → ℕ → Unsigned → Outcome Tile
+tileFrom limit rules s at end u =
     pick (isMarker rules (getD s at 0)) (markerAt s at end)
-    (andThen (nameFrom rules s at end u) (tileBehind rules s at end))
+    (andThen (nameFrom rules s at end u) (tileBehind limit rules s at end))
 
 -- the step at `at`, whose name may be read: past a pad it goes on as a step there does
-unfoldable pub foundFrom : Rules → List ℕ → ℕ → ℕ → Unsigned → Found
-foundFrom rules s at end u =
-    pick (outsideOf s at end) (stop (refuses 50 0))
-    (pick (ltb at end) (onTile at (skipPads (end - at) rules s end) (tileFrom rules s at end u)) (stop (gives (finish end))))
+unfoldable pub foundFrom : ℕ → Rules → List ℕ → ℕ → ℕ → Unsigned → Found
+foundFrom limit rules s at end u =
+    limitedFound limit
+    (pick (outsideOf s at end) (stop (refuses 50 0))
+    (pick (ltb at end) (onTile at (skipPads limit (end - at) rules s end) (tileFrom limit rules s at end u)) (stop (gives (finish end)))))
 
-abbrev pub answerFrom : Rules → List ℕ → ℕ → ℕ → Unsigned → Outcome Item
-answerFrom rules s at end u = foundFrom rules s at end u .answer
+abbrev pub answerFrom : ℕ → Rules → List ℕ → ℕ → ℕ → Unsigned → Outcome Item
+answerFrom limit rules s at end u = foundFrom limit rules s at end u .answer

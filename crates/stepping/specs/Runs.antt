@@ -17,8 +17,8 @@ abbrev pub cursor : ℕ → ℕ → Cursor
 cursor at hi = record { at = at; end = hi }
 
 -- "each equal to the one that the call's rules define"
-abbrev pub Answers : Rules → List ℕ → Cursor → Stepped → Type 0
-Answers rules s c r = r ≡ stepOf rules s c
+abbrev pub Answers : ℕ → Rules → List ℕ → Cursor → Stepped → Type 0
+Answers limit rules s c r = r ≡ stepOf limit rules s c
 
 -- "The first call gets the cursor at the part's start, each later one the cursor that the call before returned": rs are the answers to such calls from the
 -- cursor c on. `Ans c r` says which answers r a call with the cursor c has: those that the rules define, or those that the program returned.
@@ -63,22 +63,22 @@ ofCall toEnd pads (gives (field id a v)) rest = skippedAll pads (handed (field i
 ofCall toEnd pads (refuses number position) rest = rest
 
 -- the spans of a run from the cursor c on: each call skips the pads that its definition lists
-abbrev pub pieces : Bool → Rules → List ℕ → Cursor → List Stepped → List Piece
-pieces toEnd rules s c [] = []
-pieces toEnd rules s c (r ∷ rs) = ofCall toEnd (found rules s c .pads) (r .answer) (pieces toEnd rules s (r .next) rs)
+abbrev pub pieces : ℕ → Bool → Rules → List ℕ → Cursor → List Stepped → List Piece
+pieces limit toEnd rules s c [] = []
+pieces limit toEnd rules s c (r ∷ rs) = ofCall toEnd (found limit rules s c .pads) (r .answer) (pieces limit toEnd rules s (r .next) rs)
 
 -- "Tiled up to a place: the first span begins at the part's start, each next one where the one before ends, the last ends there": from a to z the bytes are
 -- these spans, each of the document and within the limits. "With no span at all, the place is the part's start too."
-pub data Tiles (rules : Rules) (s : List ℕ) (hi : ℕ) : ℕ → List Piece → ℕ → Type 0 where
-  empty : {a : ℕ} → Tiles rules s hi a [] a
+pub data Tiles (limit : ℕ) (rules : Rules) (s : List ℕ) (hi : ℕ) : ℕ → List Piece → ℕ → Type 0 where
+  empty : {a : ℕ} → Tiles limit rules s hi a [] a
   pad : {p : Pad} {z : ℕ} {ps : List Piece} (t : PadAt rules s hi p)
-      → PadWithin t → Tiles rules s hi (p .end) ps z → Tiles rules s hi (p .start) (skipped p ∷ ps) z
+      → PadWithin t → Tiles limit rules s hi (p .end) ps z → Tiles limit rules s hi (p .start) (skipped p ∷ ps) z
   item : {a z : ℕ} {i : Item} {ps : List Piece} (t : ItemAt s hi rules a i)
-      → ItemWithin t → Tiles rules s hi (itemEnd i) ps z → Tiles rules s hi a (handed i ∷ ps) z
+      → ItemWithin limit t → Tiles limit rules s hi (itemEnd i) ps z → Tiles limit rules s hi a (handed i ∷ ps) z
 
 -- the answers rs tile the part lo..hi: up to the end of the last item; and where a call says end, items and pads tile the whole part, and its position is
 -- the part's end
-pub record Tiled (rules : Rules) (s : List ℕ) (lo hi : ℕ) (rs : List Stepped) : Type 0 where
-  pub upToLast : Tiles rules s hi lo (pieces false rules s (cursor lo hi) rs) (lastEnd lo (items rs))
+pub record Tiled (limit : ℕ) (rules : Rules) (s : List ℕ) (lo hi : ℕ) (rs : List Stepped) : Type 0 where
+  pub upToLast : Tiles limit rules s hi lo (pieces limit false rules s (cursor lo hi) rs) (lastEnd lo (items rs))
   pub atEnd : (p : ℕ) (next : Cursor) → List·Memᴰ (record { answer = gives (finish p); next = next }) rs
-      → (p ≡ hi) × Tiles rules s hi lo (pieces true rules s (cursor lo hi) rs) hi
+      → (p ≡ hi) × Tiles limit rules s hi lo (pieces limit true rules s (cursor lo hi) rs) hi

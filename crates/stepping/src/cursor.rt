@@ -1,8 +1,12 @@
 // A cursor that is stepped through a stream, a list's or sexp's body, or a struct's body.
+//
+// `limit` is the most bytes that a value's annotations may have.
 ghost use mathlib.Core.Path.{_≡_};
+ghost use mathlib.Core.Bool.{false};
 ghost use Prim.Native.Nat.{_+_, _≤_, _<_};
 ghost use lib.ListN.{length};
 ghost use Rattle.numbers.specs.Outcome.{gives, refuses, andThen};
+ghost use Rattle.framing.specs.Limits.{outOfRange};
 ghost use Rattle.framing.specs.Read.{spansOf, frameRead};
 ghost use Rattle.stepping.specs.Answers.{versionPasses, markerAt, after, stepOf};
 ghost use Rattle.stepping.specs.Kinds.{rulesOf, partKind};
@@ -13,10 +17,12 @@ ghost use Rattle.stepping.specs.Private.Tiles.{tileRead};
 use framing::binary_buffer::read_frame;
 use framing::encoded_value::EncodedValue;
 use framing::encoded_value::Frame;
+use framing::limits::out_of_range;
 use numbers::binary_buffer::outside;
 use numbers::binary_buffer::read_var_uint;
 use numbers::refusal::BAD_MARKER;
 use numbers::refusal::FIELD_CUT;
+use numbers::refusal::LIMIT_OUT_OF_RANGE;
 use numbers::refusal::MARKER_CUT;
 use numbers::refusal::NOT_VERSION_1_0;
 use numbers::refusal::OUTSIDE;
@@ -260,9 +266,17 @@ fn is_marker(rules: Rules, byte: u8) -> bool
 }
 
 // What begins at `at`, by the rules of the part; its name may be read, as `name_from` has it.
-fn read_tile(rules: Rules, s: &[u8], at: usize, id: usize, next: usize, end: usize) -> Tile
-    requires { ⌜ (at < end) × (end ≤ length (now s)) ⌝ }
-    ensures { λ r. ⌜ tileRead r ≡ tileFrom rules (now (s .entry)) at end (record { value = id; next = next }) ⌝ }
+fn read_tile(
+    rules: Rules,
+    s: &[u8],
+    at: usize,
+    id: usize,
+    next: usize,
+    end: usize,
+    limit: usize,
+) -> Tile
+    requires { ⌜ (outOfRange limit ≡ false) × (at < end) × (end ≤ length (now s)) ⌝ }
+    ensures { λ r. ⌜ tileRead r ≡ tileFrom limit rules (now (s .entry)) at end (record { value = id; next = next }) ⌝ }
 {
     if is_marker(rules, s[at]) {
         return read_ivm(s, at, end);
@@ -271,7 +285,7 @@ fn read_tile(rules: Rules, s: &[u8], at: usize, id: usize, next: usize, end: usi
         Named::At {
             id: named,
             next: behind,
-        } => tile_of(rules, at, named, read_frame(s, behind, end)),
+        } => tile_of(rules, at, named, read_frame(s, behind, end, limit)),
         Named::Refused(refusal) => Tile::Item(Item::Refused(refusal)),
     }
 }
@@ -312,9 +326,23 @@ fn after_item(cursor: Cursor, item: Item) -> Cursor
 
 // What the step at `at` in the part that ends at `end` answers: past the pads to the next item, the end or a refusal. The name of what begins at `at` may be
 // read: then its ID is `id`, and it ends at `next`, behind `at`.
-pub fn item_from(rules: Rules, s: &[u8], at: usize, id: usize, next: usize, end: usize) -> Item
-    ensures { λ r. ⌜ itemRead r ≡ answerFrom rules (now (s .entry)) at end (record { value = id; next = next }) ⌝ }
+pub fn item_from(
+    rules: Rules,
+    s: &[u8],
+    at: usize,
+    id: usize,
+    next: usize,
+    end: usize,
+    limit: usize,
+) -> Item
+    ensures { λ r. ⌜ itemRead r ≡ answerFrom limit rules (now (s .entry)) at end (record { value = id; next = next }) ⌝ }
 {
+    if out_of_range(limit) {
+        return Item::Refused(Refusal {
+            number: LIMIT_OUT_OF_RANGE,
+            position: 0,
+        });
+    }
     if outside(s, at, end) {
         return Item::Refused(Refusal {
             number: OUTSIDE,
@@ -324,7 +352,7 @@ pub fn item_from(rules: Rules, s: &[u8], at: usize, id: usize, next: usize, end:
     let mut from = at;
     let mut behind = next;
     while from < end {
-        match read_tile(rules, s, from, id, behind, end) {
+        match read_tile(rules, s, from, id, behind, end, limit) {
             Tile::Pad { body: _, end: past } => {
                 from = past;
                 behind = past;
@@ -338,40 +366,40 @@ pub fn item_from(rules: Rules, s: &[u8], at: usize, id: usize, next: usize, end:
 }
 
 // What that step answers, of whose name nothing is read.
-pub fn item_at(rules: Rules, s: &[u8], at: usize, end: usize) -> Item
-    ensures { λ r. ⌜ itemRead r ≡ stepOf rules (now (s .entry)) (record { at = at; end = end }) .answer ⌝ }
+pub fn item_at(rules: Rules, s: &[u8], at: usize, end: usize, limit: usize) -> Item
+    ensures { λ r. ⌜ itemRead r ≡ stepOf limit rules (now (s .entry)) (record { at = at; end = end }) .answer ⌝ }
 {
-    item_from(rules, s, at, 0, at, end)
+    item_from(rules, s, at, 0, at, end, limit)
 }
 
 // One step: its answer, and the cursor that it leaves.
-fn next_item(rules: Rules, s: &[u8], cursor: Cursor) -> Step
-    ensures { λ r. ⌜ stepRead r ≡ stepOf rules (now (s .entry)) cursor ⌝ }
+fn next_item(rules: Rules, s: &[u8], cursor: Cursor, limit: usize) -> Step
+    ensures { λ r. ⌜ stepRead r ≡ stepOf limit rules (now (s .entry)) cursor ⌝ }
 {
-    let item = item_at(rules, s, cursor.at, cursor.end);
+    let item = item_at(rules, s, cursor.at, cursor.end, limit);
     let next = after_item(cursor, item);
     Step { item, next }
 }
 
 impl Cursor {
     // The next item of a stream.
-    pub fn next_in_stream(self, s: &[u8]) -> Step
-        ensures { λ r. ⌜ stepRead r ≡ stepOf Rules.Stream (now (s .entry)) self ⌝ }
+    pub fn next_in_stream(self, s: &[u8], limit: usize) -> Step
+        ensures { λ r. ⌜ stepRead r ≡ stepOf limit Rules.Stream (now (s .entry)) self ⌝ }
     {
-        next_item(Rules::Stream, s, self)
+        next_item(Rules::Stream, s, self, limit)
     }
 
     // The next value in the body of a list or a sexp.
-    pub fn next_in_sequence(self, s: &[u8]) -> Step
-        ensures { λ r. ⌜ stepRead r ≡ stepOf Rules.Sequence (now (s .entry)) self ⌝ }
+    pub fn next_in_sequence(self, s: &[u8], limit: usize) -> Step
+        ensures { λ r. ⌜ stepRead r ≡ stepOf limit Rules.Sequence (now (s .entry)) self ⌝ }
     {
-        next_item(Rules::Sequence, s, self)
+        next_item(Rules::Sequence, s, self, limit)
     }
 
     // The next field in the body of a struct.
-    pub fn next_in_struct(self, s: &[u8]) -> Step
-        ensures { λ r. ⌜ stepRead r ≡ stepOf Rules.Fields (now (s .entry)) self ⌝ }
+    pub fn next_in_struct(self, s: &[u8], limit: usize) -> Step
+        ensures { λ r. ⌜ stepRead r ≡ stepOf limit Rules.Fields (now (s .entry)) self ⌝ }
     {
-        next_item(Rules::Fields, s, self)
+        next_item(Rules::Fields, s, self, limit)
     }
 }

@@ -14,6 +14,7 @@ use lib.Dec.{ltb, eqb}
 use Rattle.numbers.specs.Format.{uintOf}
 use Rattle.numbers.specs.Outcome.{Outcome, gives, pick}
 use Rattle.numbers.proofs.Outcomes.{by-test, by-case, by-refusal, inside, refuse-gives}
+use Rattle.framing.specs.Limits.{outOfRange}
 use Rattle.framing.specs.Spans.{Spans}
 use Rattle.framing.specs.Format.{short, long, ValueLength, none, null, coded, ordered, ValueType, typed, null-null, TypedValue, ValueBytes, plain, annotated}
 use Rattle.framing.proofs.Soundness.{values-sound}
@@ -219,12 +220,12 @@ module _ (s : List ℕ) (v : Spans) (f : FramedValue s v) where
 
 pub scalars-meant : ScalarsMeant
 unfolding readScalar valueIn
-scalars-meant s start end at =
+scalars-meant limit s start end at =
     record {
       framed = λ v e. rw e (scalar-means s v (framed v e));
       complete = λ v e o m. rw e (scalar-is s v (framed v e) m);
       refused = λ n p e. rw e;
     }
   where
-    framed : (v : Spans) → valueIn s start end at ≡ gives v → FramedValue s v
-    framed v e = of-bytes (values-sound s at end v (refuse-gives (ltb at start) 50 0 e .1) .0)
+    framed : (v : Spans) → valueIn limit s start end at ≡ gives v → FramedValue s v
+    framed v e = of-bytes (values-sound limit s at end v (refuse-gives (ltb at start) 50 0 (refuse-gives (outOfRange limit) 68 0 e .1) .1) .0)

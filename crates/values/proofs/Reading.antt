@@ -9,6 +9,7 @@ use lib.ListN.{length, getD}
 use lib.Dec.{ltb, eqb}
 use Rattle.numbers.specs.Outcome.{Outcome, gives, refuses, pick}
 use Rattle.numbers.proofs.Outcomes.{Each, given, each-refuse, each-pick, each-then, each-map, refused}
+use Rattle.framing.specs.Limits.{outOfRange}
 use Rattle.framing.specs.Spans.{Spans}
 use Rattle.framing.specs.Answers.{peekedDescriptor, valueAt, readValue}
 use Rattle.framing.proofs.Bounds.{PeekedAt, peeked-each, Ordered, read-value-each, value-each}
@@ -22,16 +23,17 @@ pub record InSlice (s : List ℕ) (v : Spans) : Type 0 where
   pub order : v .body ≤ v .end
   pub within : v .end ≤ length s
 
-pub value-in-slice : (s : List ℕ) (at end : ℕ) → Each (InSlice s) (readValue s at end)
+pub value-in-slice : (limit : ℕ) (s : List ℕ) (at end : ℕ) → Each (InSlice s) (readValue limit s at end)
 unfolding readValue
-value-in-slice s at end =
+value-in-slice limit s at end =
     each-then (peeked-each s at end) (λ d b.
-    each-map (value-each s at end d (b .before)) (λ v o.
+    each-map (value-each limit s at end d (b .before)) (λ v o.
     record { order = o .ended; within = omega (arith, o .within, b .inside) }))
 
-pub value-in-each : (s : List ℕ) (start end at : ℕ) → Each (InSlice s) (valueIn s start end at)
+pub value-in-each : (limit : ℕ) (s : List ℕ) (start end at : ℕ) → Each (InSlice s) (valueIn limit s start end at)
 unfolding valueIn
-value-in-each s start end at = each-refuse (ltb at start) 50 0 (λ _. value-in-slice s at end)
+value-in-each limit s start end at =
+    each-refuse (outOfRange limit) 68 0 (λ _. each-refuse (ltb at start) 50 0 (λ _. value-in-slice limit s at end))
 
 -- a reading's span
 pub record SpanIn (s : List ℕ) (x : Scalar) : Type 0 where
@@ -62,14 +64,14 @@ module _ (s : List ℕ) (v : Spans) (i : InSlice s v) where
       each-pick (eqb (typeOf v) 10) (λ _. given (record { order = i .order; within = i .within })) (λ _.
       given (record { order = omega arith; within = omega arith }))))))))))))
 
-read-each : (s : List ℕ) (start end at : ℕ) → Each (SpanIn s) (readScalar s start end at)
+read-each : (limit : ℕ) (s : List ℕ) (start end at : ℕ) → Each (SpanIn s) (readScalar limit s start end at)
 unfolding readScalar
-read-each s start end at = each-then (value-in-each s start end at) (λ v i. scalar-each s v i)
+read-each limit s start end at = each-then (value-in-each limit s start end at) (λ v i. scalar-each s v i)
 
 -- whatever is answered, its span is one of the slice
 each-span : (s : List ℕ) {o : Outcome Scalar} → Each (SpanIn s) o → (spanOf o .start ≤ spanOf o .end) × (spanOf o .end ≤ length s)
 each-span s (given i) = (i .order, i .within)
 each-span s refused = (omega arith, omega arith)
 
-pub read-span : (s : List ℕ) (start end at : ℕ) → let o = readScalar s start end at in (spanOf o .start ≤ spanOf o .end) × (spanOf o .end ≤ length s)
-read-span s start end at = each-span s (read-each s start end at)
+pub read-span : (limit : ℕ) (s : List ℕ) (start end at : ℕ) → let o = readScalar limit s start end at in (spanOf o .start ≤ spanOf o .end) × (spanOf o .end ≤ length s)
+read-span limit s start end at = each-span s (read-each limit s start end at)

@@ -13,6 +13,7 @@ use Rattle.numbers.specs.Descriptor.{descriptorOf}
 use Rattle.numbers.specs.declared.type_descriptor.TypeDescriptor.{TypeDescriptor}
 use Rattle.numbers.proofs.Outcomes.{inside, then-same, then-then, then-like}
 use Rattle.framing.specs.Answers.{peekedDescriptor, isPad, Frame, valueAt, valueWithoutAnnotations, asValued, frameAt, readValue, readFrame}
+use Rattle.framing.specs.Limits.{outOfRange}
 use Rattle.framing.specs.Spans.{Spans}
 use Rattle.framing.proofs.Bounds.{PeekedAt, peeked-each}
 use Rattle.framing.proofs.Nibbles.{PadByte, pad-byte, no-pad-byte}
@@ -33,36 +34,36 @@ from-item : (at : ℕ) (o : Outcome Spans) → valueFrom at (andThen o asItem) �
 from-item at (gives v) = refl
 from-item at (refuses n p) = refl
 
-module _ (s : List ℕ) (at end : ℕ) where
+module _ (limit : ℕ) (s : List ℕ) (at end : ℕ) where
   -- the readings of a value, outside the slice, at the part's end and at a pad
-  pub value-outside : outsideOf s at end ≡ true → readValue s at end ≡ refuses 50 0
+  pub value-outside : outsideOf s at end ≡ true → readValue limit s at end ≡ refuses 50 0
   unfolding readValue peekedDescriptor
   value-outside e = rw e
 
-  pub value-at-end : outsideOf s at end ≡ false → at ≡ end → readValue s at end ≡ refuses 1 end
+  pub value-at-end : outsideOf s at end ≡ false → at ≡ end → readValue limit s at end ≡ refuses 1 end
   unfolding readValue peekedDescriptor
   value-at-end e q = rw (e, eq-eqb at end q)
 
-  pub value-at-pad : outsideOf s at end ≡ false → (at ≡ end → ⊥) → getD s at 0 < 15 → readValue s at end ≡ refuses 22 at
+  pub value-at-pad : outsideOf s at end ≡ false → (at ≡ end → ⊥) → getD s at 0 < 15 → readValue limit s at end ≡ refuses 22 at
   unfolding readValue peekedDescriptor valueAt valueWithoutAnnotations descriptorOf
   value-at-pad e n h = let p = pad-byte (getD s at 0) h in rw (e, ne-eqb at end n, p .wrapper, p .value)
 
   -- by its descriptor, where that is no pad's
-  framed-value : (d : TypeDescriptor) → isPad (d .kind) ≡ false → andThen (valueAt s at end d) asHanded ≡ andThen (frameAt s at end d) asTile
+  framed-value : (d : TypeDescriptor) → isPad (d .kind) ≡ false → andThen (valueAt limit s at end d) asHanded ≡ andThen (frameAt limit s at end d) asTile
   unfolding frameAt
-  framed-value d n = rw n (sym (then-then (valueAt s at end d) asValued asTile))
+  framed-value d n = rw n (sym (then-then (valueAt limit s at end d) asValued asTile))
 
-  handed-value : 15 ≤ getD s at 0 → andThen (andThen (readValue s at end) asItem) handed ≡ tileAt Sequence s at end
+  handed-value : 15 ≤ getD s at 0 → andThen (andThen (readValue limit s at end) asItem) handed ≡ tileAt limit Sequence s at end
   unfolding tileAt framedAt readValue readFrame descriptorOf
   handed-value h =
-      then-then (andThen (peekedDescriptor s at end) (valueAt s at end)) asItem handed
-      ∙ then-then (peekedDescriptor s at end) (valueAt s at end) asHanded
+      then-then (andThen (peekedDescriptor s at end) (valueAt limit s at end)) asItem handed
+      ∙ then-then (peekedDescriptor s at end) (valueAt limit s at end) asHanded
       ∙ then-same (peeked-each s at end) refl (λ d b.
       framed-value d (ap (λ (x : TypeDescriptor). isPad (x .kind)) (b .is) ∙ no-pad-byte (getD s at 0) h))
-      ∙ sym (then-then (peekedDescriptor s at end) (frameAt s at end) asTile)
+      ∙ sym (then-then (peekedDescriptor s at end) (frameAt limit s at end) asTile)
 
-  pub value-stepped : at < end → end ≤ length s → 15 ≤ getD s at 0 → valueFrom at (stepOf Sequence s (record { at = at; end = end }) .answer) ≡ readValue s at end
-  value-stepped l m h =
-      let o : Outcome Item = andThen (readValue s at end) asItem in
-      ap (valueFrom at) (sym (answer-is Sequence s at end o (stop o) (omega arith) m (answered Sequence s at end o l (handed-value h)) refl))
-      ∙ from-item at (readValue s at end)
+  pub value-stepped : outOfRange limit ≡ false → at < end → end ≤ length s → 15 ≤ getD s at 0 → valueFrom at (stepOf limit Sequence s (record { at = at; end = end }) .answer) ≡ readValue limit s at end
+  value-stepped g l m h =
+      let o : Outcome Item = andThen (readValue limit s at end) asItem in
+      ap (valueFrom at) (sym (answer-is limit Sequence s at end o (stop o) g (omega arith) m (answered limit Sequence s at end o l (handed-value h)) refl))
+      ∙ from-item at (readValue limit s at end)

@@ -1,4 +1,5 @@
--- The starred entries of the scope paper's "Maps at the edges", as one list. That each holds is `edges` of proofs/Edges.antt.
+-- The starred entries of the scope paper's "Maps at the edges", as one list, with that paper's limit of 255 annotation bytes. That each holds is `edges` of
+-- proofs/Edges.antt.
 -- Assumes nothing.
 use Prim.Native.Nat.{ℕ}
 use mathlib.Core.Path.{_≡_}
@@ -27,11 +28,11 @@ pub data Edge : Type 0 where
   var-int : List ℕ → Outcome Signed → Edge
 
 abbrev pub Holds : Edge → Type 0
-Holds (streams s o) = found Stream s (cursor 0 (length s)) .answer ≡ o
-Holds (steps rules s lo hi pads o) = found rules s (cursor lo hi) ≡ record { pads = pads; answer = o }
+Holds (streams s o) = found 255 Stream s (cursor 0 (length s)) .answer ≡ o
+Holds (steps rules s lo hi pads o) = found 255 rules s (cursor lo hi) ≡ record { pads = pads; answer = o }
 Holds (annotates s at end o) = readAnnotation s at end ≡ o
-Holds (opens s o) = stepIn s 0 (length s) 0 ≡ o
-Holds (reads s o) = readScalar s 0 (length s) 0 ≡ o
+Holds (opens s o) = stepIn 255 s 0 (length s) 0 ≡ o
+Holds (reads s o) = readScalar 255 s 0 (length s) 0 ≡ o
 Holds (var-uint s o) = varUInt s 0 (length s) ≡ o
 Holds (var-int s o) = varInt s 0 (length s) ≡ o
 

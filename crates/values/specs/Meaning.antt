@@ -72,11 +72,11 @@ pub data Means (s : List ℕ) (v : Spans) : Outcome Scalar → Type 0 where
   a-container : 11 ≤ type s v → type s v ≤ 13 → code s v < 15 → Means s v (gives container)
 
 -- Of a value that is framed, its reading means this of its bytes. What the framing refuses, the reading refuses with it.
-pub record ScalarMeaning (s : List ℕ) (start end at : ℕ) : Type 0 where
-  pub framed : (v : Spans) → valueIn s start end at ≡ gives v → Means s v (readScalar s start end at)
+pub record ScalarMeaning (limit : ℕ) (s : List ℕ) (start end at : ℕ) : Type 0 where
+  pub framed : (v : Spans) → valueIn limit s start end at ≡ gives v → Means s v (readScalar limit s start end at)
   -- and what the bytes mean is what is answered: no two answers are meant of one value
-  pub complete : (v : Spans) → valueIn s start end at ≡ gives v → (o : Outcome Scalar) → Means s v o → readScalar s start end at ≡ o
-  pub refused : (number position : ℕ) → valueIn s start end at ≡ refuses number position → readScalar s start end at ≡ refuses number position
+  pub complete : (v : Spans) → valueIn limit s start end at ≡ gives v → (o : Outcome Scalar) → Means s v o → readScalar limit s start end at ≡ o
+  pub refused : (number position : ℕ) → valueIn limit s start end at ≡ refuses number position → readScalar limit s start end at ≡ refuses number position
 
 abbrev pub ScalarsMeant : Type 0
-ScalarsMeant = (s : List ℕ) (start end at : ℕ) → ScalarMeaning s start end at
+ScalarsMeant = (limit : ℕ) (s : List ℕ) (start end at : ℕ) → ScalarMeaning limit s start end at

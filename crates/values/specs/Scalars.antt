@@ -7,6 +7,7 @@ use lib.Dec.{ltb, eqb}
 use Rattle.numbers.specs.Outcome.{Outcome, gives, refuses, pick, refuseIf, andThen}
 use Rattle.numbers.specs.Bytes.{part}
 use Rattle.framing.specs.Spans.{Spans}
+use Rattle.framing.specs.Limits.{limited}
 use Rattle.framing.specs.Answers.{readValue}
 use Rattle.bodies.specs.Utf8.{utf8}
 use Rattle.bodies.specs.Widen.{widenOf}
@@ -17,9 +18,9 @@ use Rattle.stepping.specs.declared.cursor.Rules.the-variants.{Sequence, Fields}
 use Rattle.values.specs.declared.value.Span.{Span}
 
 -- "An entry on a value takes the part and the position of the value's wrapper or descriptor, tests 50, then frames the value afresh with the framing's
--- refusals." The part is start..end.
-unfoldable pub valueIn : List ℕ → ℕ → ℕ → ℕ → Outcome Spans
-valueIn s start end at = refuseIf (ltb at start) 50 0 (readValue s at end)
+-- refusals." The part is start..end. By the change request A.9 an entry tests 68 before 50.
+unfoldable pub valueIn : ℕ → List ℕ → ℕ → ℕ → ℕ → Outcome Spans
+valueIn limit s start end at = limited limit (refuseIf (ltb at start) 50 0 (readValue limit s at end))
 
 -- the type and length codes of a value's descriptor
 abbrev pub typeOf : Spans → ℕ
@@ -47,8 +48,8 @@ unfoldable pub opened : Spans → Outcome Opened
 opened v =
     refuseIf (not (isContainer v)) 52 (v .descriptor) (gives (record { rules = bodyRules v; body = v .body; end = v .end }))
 
-unfoldable pub stepIn : List ℕ → ℕ → ℕ → ℕ → Outcome Opened
-stepIn s start end at = andThen (valueIn s start end at) opened
+unfoldable pub stepIn : ℕ → List ℕ → ℕ → ℕ → ℕ → Outcome Opened
+stepIn limit s start end at = andThen (valueIn limit s start end at) opened
 
 -- what a value is read as: a null of a type, a bool, an int's sign and the span of its magnitude, a float's 64 bits, a symbol's ID, the spans of bodies, or
 -- that it is a container
@@ -115,8 +116,8 @@ typedOf s v type =
 unfoldable pub scalarOf : List ℕ → Spans → Outcome Scalar
 scalarOf s v = pick (eqb (codeOf v) 15) (nullOf v) (typedOf s v (typeOf v))
 
-unfoldable pub readScalar : List ℕ → ℕ → ℕ → ℕ → Outcome Scalar
-readScalar s start end at = andThen (valueIn s start end at) (scalarOf s)
+unfoldable pub readScalar : ℕ → List ℕ → ℕ → ℕ → ℕ → Outcome Scalar
+readScalar limit s start end at = andThen (valueIn limit s start end at) (scalarOf s)
 
 -- a value's spans with its reading
 pub record ReadValue : Type 0 where
@@ -126,8 +127,8 @@ pub record ReadValue : Type 0 where
 abbrev pub withValue : List ℕ → Spans → Outcome ReadValue
 withValue s v = gives (record { value = v; scalar = scalarOf s v })
 
-unfoldable pub readWithValue : List ℕ → ℕ → ℕ → ℕ → Outcome ReadValue
-readWithValue s start end at = andThen (valueIn s start end at) (withValue s)
+unfoldable pub readWithValue : ℕ → List ℕ → ℕ → ℕ → ℕ → Outcome ReadValue
+readWithValue limit s start end at = andThen (valueIn limit s start end at) (withValue s)
 
 -- the span of a reading's part: a string's, a clob's, a blob's, a decimal's or a timestamp's body, or an int's magnitude; the empty one at 0 where it has
 -- none or is refused
@@ -152,5 +153,5 @@ spanOf (refuses number position) = spanned 0 0
 abbrev pub partOf : List ℕ → Outcome Scalar → List ℕ
 partOf s o = part s (spanOf o .start) (spanOf o .end)
 
-unfoldable pub scalarPart : List ℕ → ℕ → ℕ → ℕ → List ℕ
-scalarPart s start end at = partOf s (readScalar s start end at)
+unfoldable pub scalarPart : ℕ → List ℕ → ℕ → ℕ → ℕ → List ℕ
+scalarPart limit s start end at = partOf s (readScalar limit s start end at)

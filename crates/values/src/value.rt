@@ -1,6 +1,6 @@
 // The entries on a value: stepping into a container, and reading a scalar.
 //
-// Each takes a part of the slice, start..end, and the position in it of the value's wrapper or descriptor.
+// Each takes a part of the slice, start..end, the position in it of the value's wrapper or descriptor, and the most bytes that a value's annotations may have.
 ghost use mathlib.Core.Path.{_≡_};
 ghost use Prim.Native.Nat.{_≤_, _<_};
 ghost use lib.ListN.{length};
@@ -17,9 +17,11 @@ use bodies::uint::uint_of;
 use bodies::utf8::is_utf8;
 use framing::encoded_value::EncodedValue;
 use framing::encoded_value::Framed;
+use framing::limits::out_of_range;
 use numbers::binary_buffer::outside;
 use numbers::refusal::BAD_BOOL;
 use numbers::refusal::BAD_UTF8;
+use numbers::refusal::LIMIT_OUT_OF_RANGE;
 use numbers::refusal::NEGATIVE_ZERO_INT;
 use numbers::refusal::NO_VALUE_LEFT;
 use numbers::refusal::NOT_A_CONTAINER;
@@ -132,9 +134,12 @@ fn value_of(at: usize, item: Item) -> Framed
 }
 
 // The value at `at` in the part start..end: what a step in a sequence answers there, but that a pad is refused.
-pub fn value_in(s: &[u8], start: usize, end: usize, at: usize) -> Framed
-    ensures { λ r. ⌜ framedRead r ≡ valueIn (now (s .entry)) start end at ⌝ }
+pub fn value_in(s: &[u8], start: usize, end: usize, at: usize, limit: usize) -> Framed
+    ensures { λ r. ⌜ framedRead r ≡ valueIn limit (now (s .entry)) start end at ⌝ }
 {
+    if out_of_range(limit) {
+        return no_value(LIMIT_OUT_OF_RANGE, 0);
+    }
     if at < start {
         return no_value(OUTSIDE, 0);
     }
@@ -147,7 +152,7 @@ pub fn value_in(s: &[u8], start: usize, end: usize, at: usize) -> Framed
     if s[at] < FIRST_NO_PAD {
         return no_value(NOT_A_VALUE, at);
     }
-    value_of(at, item_at(Rules::Sequence, s, at, end))
+    value_of(at, item_at(Rules::Sequence, s, at, end, limit))
 }
 
 // Whether a value is a list, a sexp or a struct, and not null.
@@ -187,10 +192,10 @@ pub fn open(value: EncodedValue) -> Body
 }
 
 // Steps into the container at `at`.
-pub fn step_in(s: &[u8], start: usize, end: usize, at: usize) -> Body
-    ensures { λ r. ⌜ bodyRead r ≡ stepIn (now (s .entry)) start end at ⌝ }
+pub fn step_in(s: &[u8], start: usize, end: usize, at: usize, limit: usize) -> Body
+    ensures { λ r. ⌜ bodyRead r ≡ stepIn limit (now (s .entry)) start end at ⌝ }
 {
-    match value_in(s, start, end, at) {
+    match value_in(s, start, end, at, limit) {
         Framed::Value(value) => open(value),
         Framed::Refused(refusal) => Body::Refused(refusal),
     }
@@ -322,10 +327,10 @@ fn scalar_of(s: &[u8], value: EncodedValue) -> Scalar
 }
 
 // Reads the value at `at`, and hands its spans out too.
-pub fn read_with_value(s: &[u8], start: usize, end: usize, at: usize) -> ValueRead
-    ensures { λ r. ⌜ valueRead r ≡ readWithValue (now (s .entry)) start end at ⌝ }
+pub fn read_with_value(s: &[u8], start: usize, end: usize, at: usize, limit: usize) -> ValueRead
+    ensures { λ r. ⌜ valueRead r ≡ readWithValue limit (now (s .entry)) start end at ⌝ }
 {
-    match value_in(s, start, end, at) {
+    match value_in(s, start, end, at, limit) {
         Framed::Value(value) => {
             let scalar = scalar_of(s, value);
             ValueRead::Read { value, scalar }
@@ -335,10 +340,10 @@ pub fn read_with_value(s: &[u8], start: usize, end: usize, at: usize) -> ValueRe
 }
 
 // Reads the value at `at`.
-pub fn read(s: &[u8], start: usize, end: usize, at: usize) -> Scalar
-    ensures { λ r. ⌜ scalarRead r ≡ readScalar (now (s .entry)) start end at ⌝ }
+pub fn read(s: &[u8], start: usize, end: usize, at: usize, limit: usize) -> Scalar
+    ensures { λ r. ⌜ scalarRead r ≡ readScalar limit (now (s .entry)) start end at ⌝ }
 {
-    match read_with_value(s, start, end, at) {
+    match read_with_value(s, start, end, at, limit) {
         ValueRead::Read { value: _, scalar } => scalar,
         ValueRead::Refused(refusal) => Scalar::Refused(refusal),
     }
@@ -370,10 +375,10 @@ fn span_of(scalar: Scalar) -> Span
 
 // The bytes of that reading's part of the slice: a string's, clob's, blob's, decimal's or timestamp's body, or an int's
 // magnitude; none where it refuses or has no part.
-pub fn read_part(s: &[u8], start: usize, end: usize, at: usize) -> &[u8]
-    ensures { λ r. ⌜ now r ≡ scalarPart (now (s .entry)) start end at ⌝ }
+pub fn read_part(s: &[u8], start: usize, end: usize, at: usize, limit: usize) -> &[u8]
+    ensures { λ r. ⌜ now r ≡ scalarPart limit (now (s .entry)) start end at ⌝ }
 {
-    let span = span_of(read(s, start, end, at));
+    let span = span_of(read(s, start, end, at, limit));
     let from = span.start;
     let to = span.end;
     &s[from..to]

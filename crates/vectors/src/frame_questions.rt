@@ -27,9 +27,9 @@ fn pad(s: &[u8], at: usize, end: usize) -> Line {
     }
 }
 
-// `wrapper BYTES AT END`: where the annotations start and end, and how long the value is to be.
-fn wrapper(s: &[u8], at: usize, end: usize) -> Line {
-    match binary_buffer::read_annotations_wrapper(s, at, end) {
+// `wrapper BYTES AT END LIMIT`: where the annotations start and end, and how long the value is to be.
+fn wrapper(s: &[u8], at: usize, end: usize, limit: usize) -> Line {
+    match binary_buffer::read_annotations_wrapper(s, at, end, limit) {
         AnnotationsWrapper::Wrapper {
             annotations,
             value,
@@ -55,17 +55,17 @@ pub fn places(line: Line, value: EncodedValue) -> Line {
         .position(value.end)
 }
 
-// `value BYTES AT END`: the value at AT.
-fn value(s: &[u8], at: usize, end: usize) -> Line {
-    match binary_buffer::read_value(s, at, end) {
+// `value BYTES AT END LIMIT`: the value at AT.
+fn value(s: &[u8], at: usize, end: usize, limit: usize) -> Line {
+    match binary_buffer::read_value(s, at, end, limit) {
         Framed::Value(value) => places(Line::new(), value),
         Framed::Refused(refusal) => refused(refusal),
     }
 }
 
-// `frame BYTES AT END`: the same, or a pad's body.
-fn frame(s: &[u8], at: usize, end: usize) -> Line {
-    match binary_buffer::read_frame(s, at, end) {
+// `frame BYTES AT END LIMIT`: the same, or a pad's body.
+fn frame(s: &[u8], at: usize, end: usize, limit: usize) -> Line {
+    match binary_buffer::read_frame(s, at, end, limit) {
         Frame::Pad { body, end: past } => Line::new().word(b"pad").position(body).position(past),
         Frame::Value(value) => places(Line::new(), value),
         Frame::Refused(refusal) => refused(refusal),
@@ -106,7 +106,7 @@ fn annotations(s: &[u8], at: usize, end: usize, count: usize) -> Line {
 }
 
 // The answer to a question on frames, and nothing where it is on something else.
-pub fn answer(asked: &[u8], s: &[u8], at: usize, end: usize, count: usize) -> Line {
+pub fn answer(asked: &[u8], s: &[u8], at: usize, end: usize, count: usize, limit: usize) -> Line {
     if check::same(asked, b"length") {
         return length(s, at, end);
     }
@@ -114,13 +114,13 @@ pub fn answer(asked: &[u8], s: &[u8], at: usize, end: usize, count: usize) -> Li
         return pad(s, at, end);
     }
     if check::same(asked, b"wrapper") {
-        return wrapper(s, at, end);
+        return wrapper(s, at, end, limit);
     }
     if check::same(asked, b"value") {
-        return value(s, at, end);
+        return value(s, at, end, limit);
     }
     if check::same(asked, b"frame") {
-        return frame(s, at, end);
+        return frame(s, at, end, limit);
     }
     if check::same(asked, b"annotations") {
         return annotations(s, at, end, count);

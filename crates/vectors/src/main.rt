@@ -11,7 +11,12 @@ use questions::comparing::Tally;
 use questions::text;
 use questions::text::Line;
 
-// The answer to a question: a word for what is asked, the bytes in hexadecimal, and numbers.
+// The limits where a question says none.
+const ANNOTATION_LIMIT: usize = 255;
+
+const DEPTH_LIMIT: usize = 32;
+
+// The answer to a question: a word for what is asked, the bytes in hexadecimal, numbers, and where there are any the limits.
 fn answer(line: &[u8]) -> Line {
     let mut bytes = [0u8; 4096];
     let n = text::hex(text::word(line, 1), &mut bytes);
@@ -24,20 +29,34 @@ fn answer(line: &[u8]) -> Line {
     if 0 < on_numbers.len {
         return on_numbers;
     }
-    let on_frames = frame_questions::answer(asked, s, a, b, c);
+    let on_frames = frame_questions::answer(
+        asked,
+        s,
+        a,
+        b,
+        c,
+        text::number_or(line, 4, ANNOTATION_LIMIT),
+    );
     if 0 < on_frames.len {
         return on_frames;
     }
-    let on_steps = step_questions::answer(asked, s, a, b, c);
+    let limit = text::number_or(line, 5, ANNOTATION_LIMIT);
+    let on_steps = step_questions::answer(asked, s, a, b, c, limit);
     if 0 < on_steps.len {
         return on_steps;
     }
-    let on_values = scalar_questions::answer(asked, s, a, b, c);
+    let on_values = scalar_questions::answer(asked, s, a, b, c, limit);
     if 0 < on_values.len {
         return on_values;
     }
     if check::same(asked, b"walk") {
-        return walk_questions::walk(s, a, b);
+        return walk_questions::walk(
+            s,
+            a,
+            b,
+            text::number_or(line, 4, ANNOTATION_LIMIT),
+            text::number_or(line, 5, DEPTH_LIMIT),
+        );
     }
     Line::new().word(b"no such question")
 }

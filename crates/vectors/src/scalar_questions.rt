@@ -66,17 +66,17 @@ fn span(name: &[u8], start: usize, end: usize) -> Line {
     Line::new().word(name).position(start).position(end)
 }
 
-// `scalar BYTES AT END POSITION`: what the value at a position of the part reads as. The bytes of an int are those of the
+// `scalar BYTES AT END POSITION LIMIT`: what the value at a position of the part reads as. The bytes of an int are those of the
 // reading's part.
-fn scalar(s: &[u8], at: usize, end: usize, position: usize) -> Line {
-    match value::read(s, at, end, position) {
+fn scalar(s: &[u8], at: usize, end: usize, position: usize, limit: usize) -> Line {
+    match value::read(s, at, end, position, limit) {
         Scalar::Null { type_code } => type_name(Line::new().word(b"null"), type_code),
         Scalar::Bool { value } => truth(value),
         Scalar::Int {
             negative,
             start: _,
             end: _,
-        } => sign(negative).hex_bytes(value::read_part(s, at, end, position)),
+        } => sign(negative).hex_bytes(value::read_part(s, at, end, position, limit)),
         Scalar::Float { bits } => float(bits),
         Scalar::Decimal { start, end: past } => span(b"decimal", start, past),
         Scalar::Timestamp { start, end: past } => span(b"timestamp", start, past),
@@ -89,9 +89,9 @@ fn scalar(s: &[u8], at: usize, end: usize, position: usize) -> Line {
     }
 }
 
-// `part BYTES AT END POSITION`: the bytes of that reading's part, `-` where there are none.
-fn part(s: &[u8], at: usize, end: usize, position: usize) -> Line {
-    Line::new().hex_bytes(value::read_part(s, at, end, position))
+// `part BYTES AT END POSITION LIMIT`: the bytes of that reading's part, `-` where there are none.
+fn part(s: &[u8], at: usize, end: usize, position: usize, limit: usize) -> Line {
+    Line::new().hex_bytes(value::read_part(s, at, end, position, limit))
 }
 
 fn body(rules: Rules, cursor: Cursor) -> Line {
@@ -102,24 +102,31 @@ fn body(rules: Rules, cursor: Cursor) -> Line {
     }
 }
 
-// `stepin BYTES AT END POSITION`: the rules of the container's body, and where it starts and ends.
-fn step_in(s: &[u8], at: usize, end: usize, position: usize) -> Line {
-    match value::step_in(s, at, end, position) {
+// `stepin BYTES AT END POSITION LIMIT`: the rules of the container's body, and where it starts and ends.
+fn step_in(s: &[u8], at: usize, end: usize, position: usize, limit: usize) -> Line {
+    match value::step_in(s, at, end, position, limit) {
         Body::Open { rules, cursor } => body(rules, cursor),
         Body::Refused(refusal) => refused(refusal),
     }
 }
 
 // The answer to a question on values, and nothing where it is on something else.
-pub fn answer(asked: &[u8], s: &[u8], at: usize, end: usize, position: usize) -> Line {
+pub fn answer(
+    asked: &[u8],
+    s: &[u8],
+    at: usize,
+    end: usize,
+    position: usize,
+    limit: usize,
+) -> Line {
     if check::same(asked, b"scalar") {
-        return scalar(s, at, end, position);
+        return scalar(s, at, end, position, limit);
     }
     if check::same(asked, b"part") {
-        return part(s, at, end, position);
+        return part(s, at, end, position, limit);
     }
     if check::same(asked, b"stepin") {
-        return step_in(s, at, end, position);
+        return step_in(s, at, end, position, limit);
     }
     Line::new()
 }

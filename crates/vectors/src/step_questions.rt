@@ -44,22 +44,22 @@ fn item(line: Line, item: Item) -> Line {
     }
 }
 
-fn next(rules: Rules, s: &[u8], cursor: Cursor) -> Step {
+fn next(rules: Rules, s: &[u8], cursor: Cursor, limit: usize) -> Step {
     match rules {
-        Rules::Stream => cursor.next_in_stream(s),
-        Rules::Sequence => cursor.next_in_sequence(s),
-        Rules::Fields => cursor.next_in_struct(s),
+        Rules::Stream => cursor.next_in_stream(s, limit),
+        Rules::Sequence => cursor.next_in_sequence(s, limit),
+        Rules::Fields => cursor.next_in_struct(s, limit),
     }
 }
 
-// `stream BYTES AT END COUNT`, `sequence ..` and `struct ..`: what so many steps say, each with the cursor that the one
+// `stream BYTES AT END COUNT LIMIT`, `sequence ..` and `struct ..`: what so many steps say, each with the cursor that the one
 // before handed back.
-fn steps(rules: Rules, s: &[u8], at: usize, end: usize, count: usize) -> Line {
+fn steps(rules: Rules, s: &[u8], at: usize, end: usize, count: usize, limit: usize) -> Line {
     let mut line = Line::new();
     let mut cursor = Cursor { at, end };
     let mut i = 0;
     while i < count {
-        let step = next(rules, s, cursor);
+        let step = next(rules, s, cursor, limit);
         let found = step.item;
         line = item(line.joined(), found);
         cursor = step.next;
@@ -68,12 +68,12 @@ fn steps(rules: Rules, s: &[u8], at: usize, end: usize, count: usize) -> Line {
     line
 }
 
-// `streamleft BYTES AT END COUNT`, `sequenceleft ..` and `structleft ..`: the cursor that so many steps leave.
-fn left(rules: Rules, s: &[u8], at: usize, end: usize, count: usize) -> Line {
+// `streamleft BYTES AT END COUNT LIMIT`, `sequenceleft ..` and `structleft ..`: the cursor that so many steps leave.
+fn left(rules: Rules, s: &[u8], at: usize, end: usize, count: usize, limit: usize) -> Line {
     let mut cursor = Cursor { at, end };
     let mut i = 0;
     while i < count {
-        let step = next(rules, s, cursor);
+        let step = next(rules, s, cursor, limit);
         cursor = step.next;
         i += 1;
     }
@@ -81,24 +81,24 @@ fn left(rules: Rules, s: &[u8], at: usize, end: usize, count: usize) -> Line {
 }
 
 // The answer to a question on steps, and nothing where it is on something else.
-pub fn answer(asked: &[u8], s: &[u8], at: usize, end: usize, count: usize) -> Line {
+pub fn answer(asked: &[u8], s: &[u8], at: usize, end: usize, count: usize, limit: usize) -> Line {
     if check::same(asked, b"stream") {
-        return steps(Rules::Stream, s, at, end, count);
+        return steps(Rules::Stream, s, at, end, count, limit);
     }
     if check::same(asked, b"sequence") {
-        return steps(Rules::Sequence, s, at, end, count);
+        return steps(Rules::Sequence, s, at, end, count, limit);
     }
     if check::same(asked, b"struct") {
-        return steps(Rules::Fields, s, at, end, count);
+        return steps(Rules::Fields, s, at, end, count, limit);
     }
     if check::same(asked, b"streamleft") {
-        return left(Rules::Stream, s, at, end, count);
+        return left(Rules::Stream, s, at, end, count, limit);
     }
     if check::same(asked, b"sequenceleft") {
-        return left(Rules::Sequence, s, at, end, count);
+        return left(Rules::Sequence, s, at, end, count, limit);
     }
     if check::same(asked, b"structleft") {
-        return left(Rules::Fields, s, at, end, count);
+        return left(Rules::Fields, s, at, end, count, limit);
     }
     Line::new()
 }

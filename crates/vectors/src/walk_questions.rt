@@ -4,6 +4,7 @@ use framing::encoded_value::EncodedValue;
 use questions::text::Line;
 use stepping::cursor::Item;
 use stepping::cursor::is_last;
+use walking::walk::PARTS;
 use walking::walk::Walk;
 
 // Both signs of an int have one name, by the code 2.
@@ -45,12 +46,12 @@ fn visited(line: Line, depth: usize, item: Item) -> Line {
     }
 }
 
-// `walk BYTES AT END`: what the walk of AT..END hands out, to its end or the first refusal.
-pub fn walk(s: &[u8], at: usize, end: usize) -> Line {
+// `walk BYTES AT END LIMIT DEPTH`: what the walk of AT..END hands out, to its end or the first refusal.
+pub fn walk(s: &[u8], at: usize, end: usize, limit: usize, depth: usize) -> Line {
     let mut line = Line::new();
-    let mut ends = [0usize; 33];
+    let mut ends = [0usize; PARTS];
     ends[0] = end;
-    let fields = [false; 33];
+    let fields = [false; PARTS];
     let mut state = Walk {
         ends,
         fields,
@@ -61,7 +62,7 @@ pub fn walk(s: &[u8], at: usize, end: usize) -> Line {
     let most = s.len() + 1;
     let mut i = 0;
     while i < most {
-        let walked = state.next(s);
+        let walked = state.next(s, limit, depth);
         let item = walked.item;
         line = visited(line.joined(), walked.depth, item);
         if is_last(item) {

@@ -14,7 +14,7 @@ use Rattle.stepping.specs.declared.cursor.Rules.the-variants.{Stream}
 use Rattle.stepping.proofs.Places.{ValueIn, a-marker, a-value, a-field}
 use Rattle.stepping.proofs.Moves.{Moves, ends, hands, stops, moves}
 use Rattle.values.specs.Scalars.{isContainer, bodyRules}
-use Rattle.walking.specs.Walk.{deepest, Visit, visit, Inside, behind, following, walkOf, wholeWalk}
+use Rattle.walking.specs.Walk.{limitsOut, Visit, visit, Inside, behind, following, walkOf, wholeWalk}
 use Rattle.walking.specs.Theorems.{LengthBound}
 
 -- one answer at least, and at most n more than `rest` has
@@ -25,8 +25,8 @@ Few n rest xs = (1 ≤ length xs) × (length xs ≤ n + length rest)
 abbrev Bounded : ℕ → ℕ → Inside → Type 0
 Bounded low most I = (rules : Rules) (d hi at : ℕ) (rest : List Visit) → low < at → at ≤ hi → hi ≤ most → 1 ≤ length rest → Few (hi - at) rest (I rules d hi at rest)
 
-module _ (rules : Rules) (d hi at : ℕ) (rest : List Visit) (I : Inside) (r : 1 ≤ length rest) (few : Bounded at hi I) where
-  past-value : (v : Spans) → ValueIn at hi v → Few (hi - at - 1) rest (behind d v I (λ e. I rules d hi e rest))
+module _ (deepest : ℕ) (rules : Rules) (d hi at : ℕ) (rest : List Visit) (I : Inside) (r : 1 ≤ length rest) (few : Bounded at hi I) where
+  past-value : (v : Spans) → ValueIn at hi v → Few (hi - at - 1) rest (behind deepest d v I (λ e. I rules d hi e rest))
   past-value v i =
       let l : at < v .end = omega (arith, i .low, i .bodied, i .ended) in
       let o : Few (hi - v .end) rest (I rules d hi (v .end) rest) = few rules d hi (v .end) rest l (i .within) (omega arith) r in
@@ -40,7 +40,7 @@ module _ (rules : Rules) (d hi at : ℕ) (rest : List Visit) (I : Inside) (r : 1
       (b .0, omega (arith, i .low, i .bodied, i .ended, i .within))))
       (λ _. (o .0, omega (arith, i .low, i .bodied, i .ended, i .within)))
 
-  few-following : {o : Outcome Item} → Moves at hi o → Few (hi - at) rest (following d rest I (λ e. I rules d hi e rest) o)
+  few-following : {o : Outcome Item} → Moves at hi o → Few (hi - at) rest (following deepest d rest I (λ e. I rules d hi e rest) o)
   few-following ends = (r, omega arith)
   few-following (hands (a-marker {e = e} p q)) = let o = few rules d hi e rest p q (omega arith) r in (omega arith, omega arith)
   few-following (hands (a-value {v} i)) =
@@ -49,16 +49,16 @@ module _ (rules : Rules) (d hi at : ℕ) (rest : List Visit) (I : Inside) (r : 1
       let b = past-value v i in (omega arith, omega (arith, i .low, i .bodied, i .ended, i .within))
   few-following (stops x) = (omega arith, omega arith)
 
-few : (s : List ℕ) (k : ℕ) (rules : Rules) (d hi at : ℕ) (rest : List Visit) → at ≤ hi → hi ≤ length s → 1 ≤ length rest → Few (hi - at) rest (walkOf k s rules d hi at rest)
+few : (limit deepest : ℕ) (s : List ℕ) (k : ℕ) (rules : Rules) (d hi at : ℕ) (rest : List Visit) → at ≤ hi → hi ≤ length s → 1 ≤ length rest → Few (hi - at) rest (walkOf limit deepest k s rules d hi at rest)
 unfolding walkOf
-few s zero rules d hi at rest l m r = (r, omega arith)
-few s (suc k) rules d hi at rest l m r =
-    few-following rules d hi at rest (walkOf k s) r
-    (λ rules' d' hi' at' rest' p q t u. few s k rules' d' hi' at' rest' q (omega arith) u)
-    (moves rules s hi m at l)
+few limit deepest s zero rules d hi at rest l m r = (r, omega arith)
+few limit deepest s (suc k) rules d hi at rest l m r =
+    few-following deepest rules d hi at rest (walkOf limit deepest k s) r
+    (λ rules' d' hi' at' rest' p q t u. few limit deepest s k rules' d' hi' at' rest' q (omega arith) u)
+    (moves limit rules s hi m at l)
 
 pub length-bound : LengthBound
 unfolding wholeWalk
-length-bound s =
-    let f = few s (length s) Stream 0 (length s) 0 (visit 0 (gives (finish (length s))) ∷ []) (omega arith) (omega arith) (omega arith) in
-    omega (arith, f .1)
+length-bound limit deepest s =
+    let f = few limit deepest s (length s) Stream 0 (length s) 0 (visit 0 (gives (finish (length s))) ∷ []) (omega arith) (omega arith) (omega arith) in
+    by-test (λ (xs : List Visit). length xs ≤ suc (length s)) (limitsOut limit deepest) (λ _. omega arith) (λ _. omega (arith, f .1))

@@ -16,14 +16,15 @@ use Rattle.stepping.specs.Items.{Item, finish, value, field}
 use Rattle.stepping.specs.declared.cursor.Rules.the-variants.{Stream}
 use Rattle.stepping.proofs.Places.{ValueIn, ItemIn, a-marker, a-value, a-field}
 use Rattle.stepping.proofs.Moves.{Moves, ends, hands, stops, moves}
-use Rattle.walking.specs.Walk.{deepest, parts, Visit, visit, behind, following, wholeWalk}
+use Rattle.walking.specs.Walk.{limitsOut, parts, Visit, visit, behind, following, wholeWalk}
 use Rattle.walking.specs.Calls.{startOf, endAt, rulesAt, orAbove, seek, movedTo, stateAfterValue, stateAfterVisit, visitOf, calls, stateAfter}
 use Rattle.stepping.specs.Leaving.{isLast}
 use Rattle.values.specs.Scalars.{isContainer, bodyRules, typeOf}
 use Rattle.walking.specs.Private.State.{rulesBy}
 use Rattle.walking.specs.Theorems.{Exact, NeverOutside}
 use Rattle.walking.specs.declared.walk.Walk.{Walk}
-use Rattle.walking.proofs.Seeking.{visit-seek, visit-barred}
+use Rattle.walking.proofs.Depths.{in-limit, depth-room}
+use Rattle.walking.proofs.Seeking.{visit-unranged, visit-seek, visit-barred}
 use Rattle.walking.proofs.Unrolled.{full, unrolled}
 
 -- the ends of the parts of depth 0 to d lie in each other and in the map
@@ -40,22 +41,26 @@ nested-same s es es' zero h n = omega (arith, n, h 0 (omega arith))
 nested-same s es es' (suc d) h n =
     (omega (arith, n .0, h (suc d) (omega arith), h d (omega arith)), nested-same s es es' d (λ i l. h i (omega arith)) (n .1))
 
+take-nil : (n : ℕ) → _≡_ {A = List Visit} [] (take n [])
+take-nil zero = refl
+take-nil (suc n) = refl
+
 -- a state that a walk from the start reaches
-record Fit (s : List ℕ) (w : Walk) : Type 0 where
+record Fit (deepest : ℕ) (s : List ℕ) (w : Walk) : Type 0 where
   depth : w .depth ≤ deepest
   ends : length (w .ends) ≡ parts
   fields : length (w .fields) ≡ parts
   at : w .at ≤ endAt w (w .depth)
   nested : Nested s (w .ends) (w .depth)
 
-module _ (s : List ℕ) where
+module _ (limit deepest : ℕ) (s : List ℕ) (ranged : limitsOut limit deepest ≡ false) where
   -- what comes behind the part of depth d, and what is left at `at` in it
   unfoldable outer : List ℕ → List Bool → ℕ → List Visit
   outer es fs zero = visit 0 (gives (finish (getD es 0 0))) ∷ []
-  outer es fs (suc d) = full s (rulesBy d (getD fs d false)) d (getD es d 0) (getD es (suc d) 0) (outer es fs d)
+  outer es fs (suc d) = full limit deepest s (rulesBy d (getD fs d false)) d (getD es d 0) (getD es (suc d) 0) (outer es fs d)
 
   abbrev remain : List ℕ → List Bool → ℕ → ℕ → List Visit
-  remain es fs d at = full s (rulesBy d (getD fs d false)) d (getD es d 0) at (outer es fs d)
+  remain es fs d at = full limit deepest s (rulesBy d (getD fs d false)) d (getD es d 0) at (outer es fs d)
 
   outer-same : (es es' : List ℕ) (fs fs' : List Bool) (d : ℕ) → ((i : ℕ) → i ≤ d → getD es i 0 ≡ getD es' i 0) → ((i : ℕ) → i ≤ d → getD fs i false ≡ getD fs' i false) → outer es fs d ≡ outer es' fs' d
   unfolding outer
@@ -69,15 +74,15 @@ module _ (s : List ℕ) where
 
   -- what is left is an answer and what is left behind it, at a state that the walk reaches; and the answer is not 50
   record Goes (w : Walk) (xs : List Visit) (v : Visit) : Type 0 where
-    list : xs ≡ v ∷ pick (isLast (v .answer)) [] (left (stateAfterVisit w v))
-    fit : Fit s (stateAfterVisit w v)
+    list : xs ≡ v ∷ pick (isLast (v .answer)) [] (left (stateAfterVisit deepest w v))
+    fit : Fit deepest s (stateAfterVisit deepest w v)
     other : (p : ℕ) → v .answer ≡ refuses 50 p → ⊥
 
   gives-other : {i : Item} (p : ℕ) → _≡_ {A = Outcome Item} (gives i) (refuses 50 p) → ⊥
   gives-other p e = absurd (let z : _≡_ {A = ℕ} 0 1 = cc in omega arith)
 
-  module _ (w : Walk) (fit : Fit s w) (d : ℕ) (l : d ≤ deepest) (n : Nested s (w .ends) d) where
-    moved : (at : ℕ) (deep : Bool) → at ≤ endAt w d → Fit s (movedTo w d at deep)
+  module _ (w : Walk) (fit : Fit deepest s w) (d : ℕ) (l : d ≤ deepest) (n : Nested s (w .ends) d) where
+    moved : (at : ℕ) (deep : Bool) → at ≤ endAt w d → Fit deepest s (movedTo w d at deep)
     moved at deep k = record { depth = l; ends = fit .ends; fields = fit .fields; at = k; nested = n }
 
     -- the parts up to d are the same in the state of a container's body
@@ -88,7 +93,7 @@ module _ (s : List ℕ) where
     kept-field b i k = sym (getD-set-other (w .fields) (suc d) i b false (λ q. omega arith))
 
     abbrev onward : ℕ → List Visit
-    onward e = full s (rulesBy d (getD (w .fields) d false)) d (endAt w d) e (outer (w .ends) (w .fields) d)
+    onward e = full limit deepest s (rulesBy d (getD (w .fields) d false)) d (endAt w d) e (outer (w .ends) (w .fields) d)
 
     abbrev entered : Spans → Walk
     entered v =
@@ -101,18 +106,18 @@ module _ (s : List ℕ) where
         }
 
     new-end : (v : Spans) → d < deepest → getD (set (w .ends) (suc d) (v .end)) (suc d) 0 ≡ v .end
-    new-end v b = getD-set-same (w .ends) (suc d) (v .end) 0 (omega (arith, fit .ends))
+    new-end v b = getD-set-same (w .ends) (suc d) (v .end) 0 (omega (arith, fit .ends, depth-room limit deepest ranged))
 
     new-field : (v : Spans) → d < deepest → getD (set (w .fields) (suc d) (eqb (typeOf v) 13)) (suc d) false ≡ eqb (typeOf v) 13
-    new-field v b = getD-set-same (w .fields) (suc d) (eqb (typeOf v) 13) false (omega (arith, fit .fields))
+    new-field v b = getD-set-same (w .fields) (suc d) (eqb (typeOf v) 13) false (omega (arith, fit .fields, depth-room limit deepest ranged))
 
-    enters : (v : Spans) → d < deepest → full s (bodyRules v) (suc d) (v .end) (v .body) (onward (v .end)) ≡ left (entered v)
+    enters : (v : Spans) → d < deepest → full limit deepest s (bodyRules v) (suc d) (v .end) (v .body) (onward (v .end)) ≡ left (entered v)
     unfolding outer
     enters v b =
         let z : eqb (suc d) 0 ≡ false = ne-eqb (suc d) 0 (λ q. omega arith) in
         rw (z, new-end v b, new-field v b, sym (kept-end (v .end) d (omega arith)), sym (kept-field (eqb (typeOf v) 13) d (omega arith)), sym (outer-same (w .ends) (set (w .ends) (suc d) (v .end)) (w .fields) (set (w .fields) (suc d) (eqb (typeOf v) 13)) d (kept-end (v .end)) (kept-field (eqb (typeOf v) 13))))
 
-    enters-fit : (v : Spans) → d < deepest → v .body ≤ v .end → v .end ≤ endAt w d → Fit s (entered v)
+    enters-fit : (v : Spans) → d < deepest → v .body ≤ v .end → v .end ≤ endAt w d → Fit deepest s (entered v)
     enters-fit v b i k =
         record {
           depth = b;
@@ -123,19 +128,19 @@ module _ (s : List ℕ) where
         }
 
     -- behind a value
-    at-value : {at : ℕ} (v : Spans) → ValueIn at (endAt w d) v → (t u : Bool) → eqb d deepest ≡ u → (pick t (pick u (visit d (refuses 37 (v .descriptor)) ∷ []) (full s (bodyRules v) (suc d) (v .end) (v .body) (onward (v .end)))) (onward (v .end)) ≡ left (pick t (pick u (movedTo w d (v .descriptor) true) (entered v)) (movedTo w d (v .end) false))) × Fit s (pick t (pick u (movedTo w d (v .descriptor) true) (entered v)) (movedTo w d (v .end) false))
+    at-value : {at : ℕ} (v : Spans) → ValueIn at (endAt w d) v → (t u : Bool) → eqb d deepest ≡ u → (pick t (pick u (visit d (refuses 37 (v .descriptor)) ∷ []) (full limit deepest s (bodyRules v) (suc d) (v .end) (v .body) (onward (v .end)))) (onward (v .end)) ≡ left (pick t (pick u (movedTo w d (v .descriptor) true) (entered v)) (movedTo w d (v .end) false))) × Fit deepest s (pick t (pick u (movedTo w d (v .descriptor) true) (entered v)) (movedTo w d (v .end) false))
     at-value v i true true e = (refl, moved (v .descriptor) true (omega (arith, i .bodied, i .ended, i .within)))
     at-value v i true false e =
         let b : d < deepest = omega (arith, eqb-false d deepest e) in
         (enters v b, enters-fit v b (i .ended) (i .within))
     at-value v i false u e = (refl, moved (v .end) false (i .within))
 
-    behind-value : {at : ℕ} (v : Spans) → ValueIn at (endAt w d) v → (behind d v (full s) onward ≡ left (stateAfterValue w d v)) × Fit s (stateAfterValue w d v)
+    behind-value : {at : ℕ} (v : Spans) → ValueIn at (endAt w d) v → (behind deepest d v (full limit deepest s) onward ≡ left (stateAfterValue deepest w d v)) × Fit deepest s (stateAfterValue deepest w d v)
     unfolding stateAfterValue
     behind-value v i = at-value v i (isContainer v) (eqb d deepest) refl
 
     abbrev follows : Outcome Item → List Visit
-    follows o = following d (outer (w .ends) (w .fields) d) (full s) onward o
+    follows o = following deepest d (outer (w .ends) (w .fields) d) (full limit deepest s) onward o
 
     handed : {at : ℕ} {i : Item} → ItemIn at (endAt w d) i → Goes w (follows (gives i)) (visit d (gives i))
     handed (a-marker {e = e} p q) = record { list = refl; fit = moved e false q; other = gives-other }
@@ -150,11 +155,11 @@ module _ (s : List ℕ) where
     stopped {m} x = record { list = refl; fit = fit; other = λ q e. x (let z : m ≡ 50 = cc in z) }
 
   -- from a place in the part of depth d
-  goes : (w : Walk) → Fit s w → (d at : ℕ) → d ≤ deepest → at ≤ endAt w d → Nested s (w .ends) d → Goes w (remain (w .ends) (w .fields) d at) (seek s w d at)
+  goes : (w : Walk) → Fit deepest s w → (d at : ℕ) → d ≤ deepest → at ≤ endAt w d → Nested s (w .ends) d → Goes w (remain (w .ends) (w .fields) d at) (seek limit s w d at)
   unfolding seek outer
   goes w fit zero at l k n =
-      let g = go (moves Stream s (endAt w 0) n at k) in
-      record { list = unrolled s Stream 0 (endAt w 0) at (outer (w .ends) (w .fields) 0) k n ∙ g .list; fit = g .fit; other = g .other }
+      let g = go (moves limit Stream s (endAt w 0) n at k) in
+      record { list = unrolled limit deepest s (in-limit limit deepest ranged) Stream 0 (endAt w 0) at (outer (w .ends) (w .fields) 0) k n ∙ g .list; fit = g .fit; other = g .other }
     where
       go : {o : Outcome Item} → Moves at (endAt w 0) o → Goes w (follows w fit 0 l n o) (visit 0 o)
       go ends = record { list = refl; fit = moved w fit 0 l n (endAt w 0) false (omega arith); other = gives-other }
@@ -162,10 +167,10 @@ module _ (s : List ℕ) where
       go (stops x) = stopped w fit 0 l n x
   goes w fit (suc d) at l k n =
       let m : endAt w (suc d) ≤ length s = nested-in s (w .ends) (suc d) n in
-      let g = go (goes w fit d (endAt w (suc d)) (omega arith) (n .0) (n .1)) (moves (rulesAt w (suc d)) s (endAt w (suc d)) m at k) in
-      record { list = unrolled s (rulesAt w (suc d)) (suc d) (endAt w (suc d)) at (outer (w .ends) (w .fields) (suc d)) k m ∙ g .list; fit = g .fit; other = g .other }
+      let g = go (goes w fit d (endAt w (suc d)) (omega arith) (n .0) (n .1)) (moves limit (rulesAt w (suc d)) s (endAt w (suc d)) m at k) in
+      record { list = unrolled limit deepest s (in-limit limit deepest ranged) (rulesAt w (suc d)) (suc d) (endAt w (suc d)) at (outer (w .ends) (w .fields) (suc d)) k m ∙ g .list; fit = g .fit; other = g .other }
     where
-      go : {o : Outcome Item} → Goes w (remain (w .ends) (w .fields) d (endAt w (suc d))) (seek s w d (endAt w (suc d))) → Moves at (endAt w (suc d)) o → Goes w (follows w fit (suc d) l n o) (orAbove (suc d) (seek s w d) o)
+      go : {o : Outcome Item} → Goes w (remain (w .ends) (w .fields) d (endAt w (suc d))) (seek limit s w d (endAt w (suc d))) → Moves at (endAt w (suc d)) o → Goes w (follows w fit (suc d) l n o) (orAbove (suc d) (seek limit s w d) o)
       go ih ends = ih
       go ih (hands (a-marker p q)) = handed w fit (suc d) l n (a-marker p q)
       go ih (hands (a-value i)) = handed w fit (suc d) l n (a-value i)
@@ -179,27 +184,23 @@ module _ (s : List ℕ) where
   left-in : (w : Walk) → w .deep ≡ false → remain (w .ends) (w .fields) (w .depth) (w .at) ≡ left w
   left-in w h = rw h
 
-  next : (w : Walk) → Fit s w → Goes w (left w) (visitOf s w)
+  next : (w : Walk) → Fit deepest s w → Goes w (left w) (visitOf limit deepest s w)
   next w fit =
       by-case (w .deep)
       (λ h.
-      subst (Goes w (left w)) (sym (visit-barred s w (fit .depth) h (fit .at) (nested-in s (w .ends) (w .depth) (fit .nested))))
+      subst (Goes w (left w)) (sym (visit-barred limit deepest s w ranged (fit .depth) h (fit .at) (nested-in s (w .ends) (w .depth) (fit .nested))))
       (record { list = left-deep w h; fit = fit; other = λ p q. absurd (let z : _≡_ {A = ℕ} 37 50 = cc in omega arith) }))
       (λ h.
-      subst (Goes w (left w)) (sym (visit-seek s w (fit .depth) h))
-      (subst (λ (xs : List Visit). Goes w xs (seek s w (w .depth) (w .at))) (left-in w h) (goes w fit (w .depth) (w .at) (fit .depth) (fit .at) (fit .nested))))
+      subst (Goes w (left w)) (sym (visit-seek limit deepest s w ranged (fit .depth) h))
+      (subst (λ (xs : List Visit). Goes w xs (seek limit s w (w .depth) (w .at))) (left-in w h) (goes w fit (w .depth) (w .at) (fit .depth) (fit .at) (fit .nested))))
 
-  take-nil : (n : ℕ) → _≡_ {A = List Visit} [] (take n [])
-  take-nil zero = refl
-  take-nil (suc n) = refl
-
-  called : (n : ℕ) (w : Walk) → Fit s w → calls n s w ≡ take n (left w)
+  called : (n : ℕ) (w : Walk) → Fit deepest s w → calls limit deepest n s w ≡ take n (left w)
   unfolding calls
   called zero w fit = refl
   called (suc n) w fit =
       let g = next w fit in
-      let v = visitOf s w in
-      ap (λ (xs : List Visit). v ∷ xs) (ending (isLast (v .answer)) (left (stateAfterVisit w v)) (called n (stateAfterVisit w v) (g .fit))) ∙ sym (ap (take (suc n)) (g .list))
+      let v = visitOf limit deepest s w in
+      ap (λ (xs : List Visit). v ∷ xs) (ending (isLast (v .answer)) (left (stateAfterVisit deepest w v)) (called n (stateAfterVisit deepest w v) (g .fit))) ∙ sym (ap (take (suc n)) (g .list))
     where
       ending : (t : Bool) {xs : List Visit} (ys : List Visit) → xs ≡ take n ys → pick t [] xs ≡ take n (pick t [] ys)
       ending true ys h = take-nil n
@@ -208,19 +209,34 @@ module _ (s : List ℕ) where
   start-end : endAt (startOf s) 0 ≡ length s
   start-end = refl
 
-  start-fit : Fit s (startOf s)
+  start-fit : Fit deepest s (startOf s)
   start-fit = record { depth = omega arith; ends = refl; fields = refl; at = omega arith; nested = omega arith }
 
-  start-left : left (startOf s) ≡ wholeWalk s
+  start-left : left (startOf s) ≡ wholeWalk limit deepest s
   unfolding wholeWalk full outer
-  start-left = let z : length s - 0 ≡ length s = omega arith in rw z
+  start-left = let z : length s - 0 ≡ length s = omega arith in rw (ranged, z)
 
-  fit-after : (n : ℕ) (w : Walk) → Fit s w → Fit s (stateAfter n s w)
+  fit-after : (n : ℕ) (w : Walk) → Fit deepest s w → Fit deepest s (stateAfter limit deepest n s w)
   fit-after zero w fit = fit
-  fit-after (suc n) w fit = fit-after n (stateAfterVisit w (visitOf s w)) (next w fit .fit)
+  fit-after (suc n) w fit = fit-after n (stateAfterVisit deepest w (visitOf limit deepest s w)) (next w fit .fit)
+
+-- with limits that are none, 68 alone
+refused-exact : (limit deepest : ℕ) (s : List ℕ) → limitsOut limit deepest ≡ true → (n : ℕ) → calls limit deepest n s (startOf s) ≡ take n (wholeWalk limit deepest s)
+unfolding calls visitOf wholeWalk
+refused-exact limit deepest s g zero = refl
+refused-exact limit deepest s g (suc n) = rw g (ap (λ (xs : List Visit). visit 0 (refuses 68 0) ∷ xs) (take-nil n))
+
+refused-other : (limit deepest : ℕ) (s : List ℕ) (w : Walk) → limitsOut limit deepest ≡ true → (p : ℕ) → visitOf limit deepest s w .answer ≡ refuses 50 p → ⊥
+refused-other limit deepest s w g p e =
+    let q : _≡_ {A = Outcome Item} (refuses 68 0) (refuses 50 p) = sym (ap (λ (v : Visit). v .answer) (visit-unranged limit deepest s w g)) ∙ e in
+    absurd (let z : _≡_ {A = ℕ} 68 50 = cc in omega arith)
 
 pub exact : Exact
-exact s n = called s n (startOf s) (start-fit s) ∙ ap (take n) (start-left s)
+exact limit deepest s n =
+    by-case (limitsOut limit deepest) (λ g. refused-exact limit deepest s g n) (λ g.
+    called limit deepest s g n (startOf s) (start-fit limit deepest s g) ∙ ap (take n) (start-left limit deepest s g))
 
 pub never-outside : NeverOutside
-never-outside s n p = next s (stateAfter n s (startOf s)) (fit-after s n (startOf s) (start-fit s)) .other p
+never-outside limit deepest s n p =
+    by-case (limitsOut limit deepest) (λ g. refused-other limit deepest s (stateAfter limit deepest n s (startOf s)) g p) (λ g.
+    next limit deepest s g (stateAfter limit deepest n s (startOf s)) (fit-after limit deepest s g n (startOf s) (start-fit limit deepest s g)) .other p)

@@ -14,7 +14,7 @@ use Rattle.stepping.specs.Read.{itemRead}
 use Rattle.stepping.specs.declared.cursor.Rules.{Rules}
 use Rattle.stepping.specs.declared.cursor.Rules.the-variants.{Stream, Sequence, Fields}
 use Rattle.values.specs.Scalars.{isContainer, typeOf}
-use Rattle.walking.specs.Walk.{deepest, parts, Visit, visit}
+use Rattle.walking.specs.Walk.{limitsOut, parts, Visit, visit}
 use Rattle.walking.specs.declared.walk.Walk.{Walk}
 use Rattle.walking.specs.declared.walk.Walked.{Walked}
 
@@ -47,17 +47,17 @@ orAbove d up (gives (field id a v)) = visit d (gives (field id a v))
 orAbove d up (refuses number position) = visit d (refuses number position)
 
 -- from `at` in the part of depth d: what its step answers, or where that part ends, what is answered behind it in the part above; the stream's end is the map's
-unfoldable pub seek : List ℕ → Walk → ℕ → ℕ → Visit
-seek s w zero at = visit 0 (answerAt Stream s at (endAt w 0))
-seek s w (suc d) at = orAbove (suc d) (seek s w d) (answerAt (rulesAt w (suc d)) s at (endAt w (suc d)))
+unfoldable pub seek : ℕ → List ℕ → Walk → ℕ → ℕ → Visit
+seek limit s w zero at = visit 0 (answerAt limit Stream s at (endAt w 0))
+seek limit s w (suc d) at = orAbove (suc d) (seek limit s w d) (answerAt limit (rulesAt w (suc d)) s at (endAt w (suc d)))
 
 -- the state at a place of depth d
 abbrev pub movedTo : Walk → ℕ → ℕ → Bool → Walk
 movedTo w d at deep = record { ends = w .ends; fields = w .fields; depth = d; at = at; deep = deep }
 
 -- behind a value: in the body of a non-null container; before refusal 37 where that is too deep, its position the container's; else past the value
-unfoldable pub stateAfterValue : Walk → ℕ → Spans → Walk
-stateAfterValue w d v =
+unfoldable pub stateAfterValue : ℕ → Walk → ℕ → Spans → Walk
+stateAfterValue deepest w d v =
     pick (isContainer v)
     (pick (eqb d deepest) (movedTo w d (v .descriptor) true)
     (record {
@@ -70,38 +70,42 @@ stateAfterValue w d v =
     (movedTo w d (v .end) false)
 
 -- the state behind an answer met at depth d: the one given behind a refusal
-abbrev pub stateAfterAnswer : Walk → ℕ → Outcome Item → Walk
-stateAfterAnswer w d (gives (finish p)) = movedTo w d p false
-stateAfterAnswer w d (gives (marker a major minor e)) = movedTo w d e false
-stateAfterAnswer w d (gives (value v)) = stateAfterValue w d v
-stateAfterAnswer w d (gives (field id a v)) = stateAfterValue w d v
-stateAfterAnswer w d (refuses number position) = w
+abbrev pub stateAfterAnswer : ℕ → Walk → ℕ → Outcome Item → Walk
+stateAfterAnswer deepest w d (gives (finish p)) = movedTo w d p false
+stateAfterAnswer deepest w d (gives (marker a major minor e)) = movedTo w d e false
+stateAfterAnswer deepest w d (gives (value v)) = stateAfterValue deepest w d v
+stateAfterAnswer deepest w d (gives (field id a v)) = stateAfterValue deepest w d v
+stateAfterAnswer deepest w d (refuses number position) = w
 
-abbrev pub stateAfterVisit : Walk → Visit → Walk
-stateAfterVisit w r = stateAfterAnswer w (r .depth) (r .answer)
+abbrev pub stateAfterVisit : ℕ → Walk → Visit → Walk
+stateAfterVisit deepest w r = stateAfterAnswer deepest w (r .depth) (r .answer)
 
 -- at a container that is too deep
 unfoldable pub barred : List ℕ → Walk → Visit
 barred s w = pick (outsideOf s (w .at) (endAt w (w .depth))) (visit 0 (refuses 50 0)) (visit (w .depth) (refuses 37 (w .at)))
 
--- 50: "a walk state deeper than the walk's limit", or with a part or a position outside the slice, which the step says
-unfoldable pub visitOf : List ℕ → Walk → Visit
-visitOf s w =
-    pick (ltb deepest (w .depth)) (visit 0 (refuses 50 0))
-    (pick (w .deep) (barred s w) (seek s w (w .depth) (w .at)))
+-- 68 for limits that are none; 50: "a walk state deeper than the walk's limit", which is this call's, or with a part or a position outside the slice, which the
+-- step says
+unfoldable pub visitOf : ℕ → ℕ → List ℕ → Walk → Visit
+visitOf limit deepest s w =
+    pick (limitsOut limit deepest) (visit 0 (refuses 68 0))
+    (pick (ltb deepest (w .depth)) (visit 0 (refuses 50 0))
+    (pick (w .deep) (barred s w) (seek limit s w (w .depth) (w .at))))
 
-abbrev pub nextOf : List ℕ → Walk → Called
-nextOf s w = record { visited = visitOf s w; next = stateAfterVisit w (visitOf s w) }
+abbrev pub nextOf : ℕ → ℕ → List ℕ → Walk → Called
+nextOf limit deepest s w = record { visited = visitOf limit deepest s w; next = stateAfterVisit deepest w (visitOf limit deepest s w) }
 
 -- the answers of n calls, each with the state that the call before left, up to the end or the first refusal
-unfoldable pub calls : ℕ → List ℕ → Walk → List Visit
-calls zero s w = []
-calls (suc n) s w = visitOf s w ∷ pick (isLast (visitOf s w .answer)) [] (calls n s (stateAfterVisit w (visitOf s w)))
+unfoldable pub calls : ℕ → ℕ → ℕ → List ℕ → Walk → List Visit
+calls limit deepest zero s w = []
+calls limit deepest (suc n) s w =
+    visitOf limit deepest s w
+    ∷ pick (isLast (visitOf limit deepest s w .answer)) [] (calls limit deepest n s (stateAfterVisit deepest w (visitOf limit deepest s w)))
 
 -- the state that n calls leave, those behind the end and behind refusals too
-abbrev pub stateAfter : ℕ → List ℕ → Walk → Walk
-stateAfter zero s w = w
-stateAfter (suc n) s w = stateAfter n s (stateAfterVisit w (visitOf s w))
+abbrev pub stateAfter : ℕ → ℕ → ℕ → List ℕ → Walk → Walk
+stateAfter limit deepest zero s w = w
+stateAfter limit deepest (suc n) s w = stateAfter limit deepest n s (stateAfterVisit deepest w (visitOf limit deepest s w))
 
 -- the items among answers of the walk: all but the end and a refusal, which come last
 abbrev pub itemsIn : List Visit → ℕ

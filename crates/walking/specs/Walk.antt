@@ -1,10 +1,12 @@
 -- The scope paper's "Walk": the whole walk of a map.
 -- Assumes nothing.
 use Prim.Native.Nat.{ℕ, zero, suc}
+use mathlib.Core.Bool.{Bool, true}
 use mathlib.Core.List.{List, [], _∷_}
 use lib.ListN.{length}
-use lib.Dec.{eqb}
+use lib.Dec.{ltb, eqb}
 use Rattle.numbers.specs.Outcome.{Outcome, gives, refuses, pick}
+use Rattle.framing.specs.Limits.{outOfRange}
 use Rattle.framing.specs.Spans.{Spans}
 use Rattle.stepping.specs.Items.{Item, finish, marker, value, field}
 use Rattle.stepping.specs.Answers.{answerAt}
@@ -12,13 +14,21 @@ use Rattle.stepping.specs.declared.cursor.Rules.{Rules}
 use Rattle.stepping.specs.declared.cursor.Rules.the-variants.{Stream}
 use Rattle.values.specs.Scalars.{isContainer, bodyRules}
 
--- "A non-null container at depth 32 is handed out, then 37 follows."
-abbrev pub deepest : ℕ
-deepest = 32
+-- The change request A.9, "Limits by title": the depth at which a container is too deep is given with each call, "1 to 64", and so is the limit of annotation
+-- bytes.
+abbrev pub leastDepth : ℕ
+leastDepth = 1
 
--- the parts that a walk can be in: the stream, and a body for each depth
+abbrev pub mostDepth : ℕ
+mostDepth = 64
+
+-- 68 "a parameter outside its range": either of the two
+unfoldable pub limitsOut : ℕ → ℕ → Bool
+limitsOut limit deepest = pick (outOfRange limit) true (pick (ltb deepest leastDepth) true (ltb mostDepth deepest))
+
+-- the parts that a walk can be in: the stream, and a body for each depth. "The walk's state grows to 65 ends."
 abbrev pub parts : ℕ
-parts = suc deepest
+parts = suc mostDepth
 
 -- an answer of the walk: an item, the end or a refusal, and the depth of the part in which it was met
 pub record Visit : Type 0 where
@@ -32,29 +42,32 @@ visit d o = record { depth = d; answer = o }
 abbrev pub Inside : Type 0
 Inside = Rules → ℕ → ℕ → ℕ → List Visit → List Visit
 
--- what follows a value handed out at depth d: "a non-null container before what is in it", then what `onward` says comes behind the value; at depth 32
--- refusal 37 at its descriptor, and nothing
-abbrev pub behind : ℕ → Spans → Inside → (ℕ → List Visit) → List Visit
-behind d v inside onward =
+-- what follows a value handed out at depth d: "a non-null container before what is in it", then what `onward` says comes behind the value; at the depth
+-- `deepest` refusal 37 at its descriptor, and nothing: "a non-null container at depth 32 is handed out, then 37 follows", and by A.9 37 is "tested by the
+-- limits given"
+abbrev pub behind : ℕ → ℕ → Spans → Inside → (ℕ → List Visit) → List Visit
+behind deepest d v inside onward =
     pick (isContainer v)
     (pick (eqb d deepest) (visit d (refuses 37 (v .descriptor)) ∷ [])
     (inside (bodyRules v) (suc d) (v .end) (v .body) (onward (v .end))))
     (onward (v .end))
 
 -- what a step at depth d answers, and what follows: behind an item the rest of the part, behind a refusal nothing, and behind the part's end `rest`
-abbrev pub following : ℕ → List Visit → Inside → (ℕ → List Visit) → Outcome Item → List Visit
-following d rest inside onward (gives (finish p)) = rest
-following d rest inside onward (gives (marker a major minor e)) = visit d (gives (marker a major minor e)) ∷ onward e
-following d rest inside onward (gives (value v)) = visit d (gives (value v)) ∷ behind d v inside onward
-following d rest inside onward (gives (field id a v)) = visit d (gives (field id a v)) ∷ behind d v inside onward
-following d rest inside onward (refuses number position) = visit d (refuses number position) ∷ []
+abbrev pub following : ℕ → ℕ → List Visit → Inside → (ℕ → List Visit) → Outcome Item → List Visit
+following deepest d rest inside onward (gives (finish p)) = rest
+following deepest d rest inside onward (gives (marker a major minor e)) = visit d (gives (marker a major minor e)) ∷ onward e
+following deepest d rest inside onward (gives (value v)) = visit d (gives (value v)) ∷ behind deepest d v inside onward
+following deepest d rest inside onward (gives (field id a v)) = visit d (gives (field id a v)) ∷ behind deepest d v inside onward
+following deepest d rest inside onward (refuses number position) = visit d (refuses number position) ∷ []
 
 -- "Markers and values in order": the walk of the part at..hi of depth d, and then `rest`. k is how many bytes it goes at most: those of the part are enough.
-unfoldable pub walkOf : ℕ → List ℕ → Rules → ℕ → ℕ → ℕ → List Visit → List Visit
-walkOf zero s rules d hi at rest = rest
-walkOf (suc k) s rules d hi at rest =
-    following d rest (walkOf k s) (λ e. walkOf k s rules d hi e rest) (answerAt rules s at hi)
+unfoldable pub walkOf : ℕ → ℕ → ℕ → List ℕ → Rules → ℕ → ℕ → ℕ → List Visit → List Visit
+walkOf limit deepest zero s rules d hi at rest = rest
+walkOf limit deepest (suc k) s rules d hi at rest =
+    following deepest d rest (walkOf limit deepest k s) (λ e. walkOf limit deepest k s rules d hi e rest) (answerAt limit rules s at hi)
 
--- "The stream is depth 0": the walk of the whole map, and its end
-unfoldable pub wholeWalk : List ℕ → List Visit
-wholeWalk s = walkOf (length s) s Stream 0 (length s) 0 (visit 0 (gives (finish (length s))) ∷ [])
+-- "The stream is depth 0": the walk of the whole map, and its end; with limits that are none, 68 alone
+unfoldable pub wholeWalk : ℕ → ℕ → List ℕ → List Visit
+wholeWalk limit deepest s =
+    pick (limitsOut limit deepest) (visit 0 (refuses 68 0) ∷ [])
+    (walkOf limit deepest (length s) s Stream 0 (length s) 0 (visit 0 (gives (finish (length s))) ∷ []))

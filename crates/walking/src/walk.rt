@@ -1,12 +1,15 @@
 // The walk of a whole map: markers and values in order, a container before what is in it, one step a call.
+//
+// `limit` is the most bytes that a value's annotations may have, `deepest` the depth at which a container is handed out and not entered.
 ghost use mathlib.Core.Path.{_≡_};
-ghost use Prim.Native.Nat.{_-_, _≤_, _<_};
+ghost use Prim.Native.Nat.{ℕ, _-_, _≤_, _<_};
 ghost use lib.ListN.{length, take};
 ghost use mathlib.Core.Bool.{false};
 ghost use Rattle.numbers.specs.Outcome.{refuses};
+ghost use Rattle.framing.specs.Limits.{outOfRange};
 ghost use Rattle.framing.specs.Read.{spansOf};
 ghost use Rattle.stepping.specs.Read.{itemRead};
-ghost use Rattle.walking.specs.Walk.{deepest, visit, wholeWalk};
+ghost use Rattle.walking.specs.Walk.{mostDepth, limitsOut, visit, wholeWalk};
 ghost use Rattle.walking.specs.Calls.{startOf, seek, stateAfterValue, stateAfterVisit, visitOf, nextOf, calls, itemsIn, walkedRead};
 ghost use Rattle.walking.specs.Private.State.{rulesBy, stateOf, seenRead, ShortAt, MetAt, endsBody};
 use framing::binary_buffer::bare_value;
@@ -14,7 +17,9 @@ use framing::binary_buffer::begins_value;
 use framing::binary_buffer::short_value;
 use framing::encoded_value::EncodedValue;
 use framing::encoded_value::ShortValue;
+use framing::limits::out_of_range;
 use numbers::binary_buffer::outside;
+use numbers::refusal::LIMIT_OUT_OF_RANGE;
 use numbers::refusal::OUTSIDE;
 use numbers::refusal::Refusal;
 use numbers::refusal::TOO_DEEP;
@@ -27,11 +32,13 @@ use stepping::cursor::item_from;
 use stepping::cursor::read_name;
 use values::value::is_container;
 
-// The deepest part: a container in it is handed out and not entered.
-pub const DEEPEST: usize = 32;
+// The range of the depth at which a container is too deep.
+const LEAST_DEPTH: usize = 1;
+
+const MOST_DEPTH: usize = 64;
 
 // The parts that a walk can be in: the stream, and a body for each depth.
-pub const PARTS: usize = DEEPEST + 1;
+pub const PARTS: usize = MOST_DEPTH + 1;
 
 // Where a walk is: the ends of the parts that it is in, by depth; which of them are bodies of structs; its depth and its position. `deep`: the container at
 // the position was handed out and is too deep to enter.
@@ -63,6 +70,19 @@ struct Seen {
     item: Item,
 }
 
+// Whether one of a walk's two limits is none.
+fn limits_out(limit: usize, deepest: usize) -> bool
+    ensures { λ r. ⌜ r ≡ limitsOut limit deepest ⌝ }
+{
+    if out_of_range(limit) {
+        return true;
+    }
+    if deepest < LEAST_DEPTH {
+        return true;
+    }
+    MOST_DEPTH < deepest
+}
+
 // The rules of a part of this depth: the stream's, or those of a body.
 fn rules_at(depth: usize, fields: bool) -> Rules
     ensures { λ r. ⌜ r ≡ rulesBy depth fields ⌝ }
@@ -77,15 +97,15 @@ fn rules_at(depth: usize, fields: bool) -> Rules
 }
 
 // The next answer from a place on, in the parts above where its part ends.
-fn find(s: &[u8], ends: &[usize; PARTS], fields: &[bool; PARTS], place: Place) -> Seen
-    requires { ⌜ place .depth ≤ deepest ⌝ }
-    ensures { λ r. ⌜ seenRead r ≡ seek (now (s .entry)) (stateOf (now (ends .entry)) (now (fields .entry)) place) (place .depth) (place .at) ⌝ }
+fn find(s: &[u8], ends: &[usize; PARTS], fields: &[bool; PARTS], place: Place, limit: usize) -> Seen
+    requires { ⌜ place .depth ≤ mostDepth ⌝ }
+    ensures { λ r. ⌜ seenRead r ≡ seek limit (now (s .entry)) (stateOf (now (ends .entry)) (now (fields .entry)) place) (place .depth) (place .at) ⌝ }
 {
     let mut depth = place.depth;
     let mut at = place.at;
     loop {
         let rules = rules_at(depth, fields[depth]);
-        let item = item_at(rules, s, at, ends[depth]);
+        let item = item_at(rules, s, at, ends[depth], limit);
         if depth == 0 {
             return Seen { depth, item };
         }
@@ -108,9 +128,10 @@ fn pass_value(
     place: Place,
     depth: usize,
     value: EncodedValue,
+    deepest: usize,
 ) -> Place
-    requires { ⌜ depth ≤ deepest ⌝ }
-    ensures { λ r. ⌜ stateOf (now (ends .exit)) (now (fields .exit)) r ≡ stateAfterValue (stateOf (now (ends .entry)) (now (fields .entry)) place) depth (spansOf value) ⌝ }
+    requires { ⌜ (depth ≤ deepest) × (deepest ≤ mostDepth) ⌝ }
+    ensures { λ r. ⌜ stateOf (now (ends .exit)) (now (fields .exit)) r ≡ stateAfterValue deepest (stateOf (now (ends .entry)) (now (fields .entry)) place) depth (spansOf value) ⌝ }
 {
     if !is_container(value) {
         return Place {
@@ -119,7 +140,7 @@ fn pass_value(
             deep: false,
         };
     }
-    if depth == DEEPEST {
+    if depth == deepest {
         return Place {
             depth,
             at: value.descriptor,
@@ -143,9 +164,10 @@ fn pass_item(
     place: Place,
     depth: usize,
     item: Item,
+    deepest: usize,
 ) -> Place
-    requires { ⌜ depth ≤ deepest ⌝ }
-    ensures { λ r. ⌜ stateOf (now (ends .exit)) (now (fields .exit)) r ≡ stateAfterVisit (stateOf (now (ends .entry)) (now (fields .entry)) place) (visit depth (itemRead item)) ⌝ }
+    requires { ⌜ (depth ≤ deepest) × (deepest ≤ mostDepth) ⌝ }
+    ensures { λ r. ⌜ stateOf (now (ends .exit)) (now (fields .exit)) r ≡ stateAfterVisit deepest (stateOf (now (ends .entry)) (now (fields .entry)) place) (visit depth (itemRead item)) ⌝ }
 {
     match item {
         Item::End { position } => Place {
@@ -163,12 +185,12 @@ fn pass_item(
             at: end,
             deep: false,
         },
-        Item::Value(value) => pass_value(ends, fields, place, depth, value),
+        Item::Value(value) => pass_value(ends, fields, place, depth, value, deepest),
         Item::Field {
             id: _,
             start: _,
             value,
-        } => pass_value(ends, fields, place, depth, value),
+        } => pass_value(ends, fields, place, depth, value, deepest),
         Item::Refused(_) => place,
     }
 }
@@ -183,11 +205,19 @@ fn refused(depth: usize, number: u64, position: usize) -> Seen
 }
 
 // The answer at a place.
-fn look(s: &[u8], ends: &[usize; PARTS], fields: &[bool; PARTS], place: Place) -> Seen
-    ensures { λ r. ⌜ seenRead r ≡ visitOf (now (s .entry)) (stateOf (now (ends .entry)) (now (fields .entry)) place) ⌝ }
+fn look(
+    s: &[u8],
+    ends: &[usize; PARTS],
+    fields: &[bool; PARTS],
+    place: Place,
+    limit: usize,
+    deepest: usize,
+) -> Seen
+    requires { ⌜ (limitsOut limit deepest ≡ false) × (deepest ≤ mostDepth) ⌝ }
+    ensures { λ r. ⌜ seenRead r ≡ visitOf limit deepest (now (s .entry)) (stateOf (now (ends .entry)) (now (fields .entry)) place) ⌝ }
 {
     let depth = place.depth;
-    if DEEPEST < depth {
+    if deepest < depth {
         return refused(0, OUTSIDE, 0);
     }
     if place.deep {
@@ -196,7 +226,7 @@ fn look(s: &[u8], ends: &[usize; PARTS], fields: &[bool; PARTS], place: Place) -
         }
         return refused(depth, TOO_DEEP, place.at);
     }
-    find(s, ends, fields, place)
+    find(s, ends, fields, place, limit)
 }
 
 // What stands at a position before a part's end: a short value; else its name is read, and what stands behind it is still to be looked at; or its name is refused.
@@ -209,7 +239,7 @@ enum Met {
 // The short value at `at`, before the part's end; most other bytes need no more than a look.
 fn short_at(s: &[u8], at: usize, end: usize) -> ShortValue
     requires { ⌜ (at < end) × (end ≤ length (now s)) ⌝ }
-    ensures { λ r. ⌜ ShortAt (now (s .entry)) at end r ⌝ }
+    ensures { λ r. ⌜ ((limit : ℕ) → ShortAt limit (now (s .entry)) at end r) ⌝ }
 {
     if !begins_value(s[at]) {
         return ShortValue::Other;
@@ -219,7 +249,7 @@ fn short_at(s: &[u8], at: usize, end: usize) -> ShortValue
 
 fn meet(rules: Rules, s: &[u8], at: usize, end: usize) -> Met
     requires { ⌜ (at < end) × (end ≤ length (now s)) ⌝ }
-    ensures { λ r. ⌜ MetAt rules (now (s .entry)) at end r ⌝ }
+    ensures { λ r. ⌜ ((limit : ℕ) → outOfRange limit ≡ false → MetAt limit rules (now (s .entry)) at end r) ⌝ }
 {
     match read_name(rules, s, at, end) {
         Named::At { id, next } => match short_at(s, next, end) {
@@ -264,14 +294,17 @@ fn count_from(
     fields: &mut [bool; PARTS],
     from: Place,
     most: u64,
+    limit: usize,
+    deepest: usize,
 ) -> u64
-    ensures { λ r. ⌜ r ≡ itemsIn (calls most (now (s .entry)) (stateOf (now (ends .entry)) (now (fields .entry)) from)) ⌝ }
+    requires { ⌜ (limitsOut limit deepest ≡ false) × (deepest ≤ mostDepth) ⌝ }
+    ensures { λ r. ⌜ r ≡ itemsIn (calls limit deepest most (now (s .entry)) (stateOf (now (ends .entry)) (now (fields .entry)) from)) ⌝ }
 {
     let mut place = from;
     let mut count = 0;
     while count < most {
         let depth = place.depth;
-        if DEEPEST < depth {
+        if deepest < depth {
             return count;
         }
         if place.deep {
@@ -292,11 +325,11 @@ fn count_from(
         let rules = rules_at(depth, fields[depth]);
         match meet(rules, s, at, end) {
             Met::Value(value) => {
-                place = pass_value(ends, fields, place, depth, value);
+                place = pass_value(ends, fields, place, depth, value, deepest);
                 count = count + 1;
             }
             Met::Behind { id, next } => {
-                let item = item_from(rules, s, at, id, next, end);
+                let item = item_from(rules, s, at, id, next, end, limit);
                 if ends_body(depth, item) {
                     place = above(depth, end);
                     continue;
@@ -304,7 +337,7 @@ fn count_from(
                 if is_last(item) {
                     return count;
                 }
-                place = pass_item(ends, fields, place, depth, item);
+                place = pass_item(ends, fields, place, depth, item, deepest);
                 count = count + 1;
             }
             Met::Refused => {
@@ -315,10 +348,13 @@ fn count_from(
     count
 }
 
-// How many items at most `most` calls of a map's walk hand out from its start.
-pub fn count_items(s: &[u8], most: u64) -> u64
-    ensures { λ r. ⌜ r ≡ itemsIn (take most (wholeWalk (now (s .entry)))) ⌝ }
+// How many items at most `most` calls of a map's walk hand out from its start: 0 where a limit is none.
+pub fn count_items(s: &[u8], most: u64, limit: usize, deepest: usize) -> u64
+    ensures { λ r. ⌜ r ≡ itemsIn (take most (wholeWalk limit deepest (now (s .entry)))) ⌝ }
 {
+    if limits_out(limit, deepest) {
+        return 0;
+    }
     let walk = Walk::start(s);
     let mut ends = walk.ends;
     let mut fields = walk.fields;
@@ -327,7 +363,7 @@ pub fn count_items(s: &[u8], most: u64) -> u64
         at: walk.at,
         deep: walk.deep,
     };
-    count_from(s, &mut ends, &mut fields, place, most)
+    count_from(s, &mut ends, &mut fields, place, most, limit, deepest)
 }
 
 impl Walk {
@@ -348,9 +384,19 @@ impl Walk {
     }
 
     // The next answer of the walk.
-    pub fn next(self, s: &[u8]) -> Walked
-        ensures { λ r. ⌜ walkedRead r ≡ nextOf (now (s .entry)) self ⌝ }
+    pub fn next(self, s: &[u8], limit: usize, deepest: usize) -> Walked
+        ensures { λ r. ⌜ walkedRead r ≡ nextOf limit deepest (now (s .entry)) self ⌝ }
     {
+        if limits_out(limit, deepest) {
+            return Walked {
+                depth: 0,
+                item: Item::Refused(Refusal {
+                    number: LIMIT_OUT_OF_RANGE,
+                    position: 0,
+                }),
+                next: self,
+            };
+        }
         let mut ends = self.ends;
         let mut fields = self.fields;
         let place = Place {
@@ -358,9 +404,9 @@ impl Walk {
             at: self.at,
             deep: self.deep,
         };
-        let seen = look(s, &ends, &fields, place);
+        let seen = look(s, &ends, &fields, place, limit, deepest);
         let item = seen.item;
-        let left = pass_item(&mut ends, &mut fields, place, seen.depth, item);
+        let left = pass_item(&mut ends, &mut fields, place, seen.depth, item, deepest);
         Walked {
             depth: seen.depth,
             item,

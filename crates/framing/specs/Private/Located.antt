@@ -36,12 +36,12 @@ innerTests w d =
 unfoldable pub innerAt : List ℕ → ℕ → Wrapping → Outcome Location
 innerAt s end w = andThen (peekedDescriptor s (w .value) end) (innerTests w)
 
-unfoldable pub locationInWrapper : List ℕ → ℕ → ℕ → TypeDescriptor → Outcome Location
-locationInWrapper s at end d = andThen (wrapperAt s at end d) (innerAt s end)
+unfoldable pub locationInWrapper : ℕ → List ℕ → ℕ → ℕ → TypeDescriptor → Outcome Location
+locationInWrapper limit s at end d = andThen (wrapperAt limit s at end d) (innerAt s end)
 
-unfoldable pub locationAt : List ℕ → ℕ → ℕ → TypeDescriptor → Outcome Location
-locationAt s at end d =
-    pick (isWrapper (d .kind)) (locationInWrapper s at end d)
+unfoldable pub locationAt : ℕ → List ℕ → ℕ → ℕ → TypeDescriptor → Outcome Location
+locationAt limit s at end d =
+    pick (isWrapper (d .kind)) (locationInWrapper limit s at end d)
     (refuseIf (noValue (d .kind)) 22 at (gives (record { annotations = at; value = at; expected = 0; descriptor = d })))
 
 -- a length that is not the one expected, where one is

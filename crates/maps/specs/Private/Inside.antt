@@ -19,6 +19,6 @@ insideOf s start end at kind =
     pick (ltb at start) false (pick (ltb 2 kind) false (pick (ltb end at) false (leb end (length s))))
 
 -- a short value that is said at `at` is one
-abbrev pub ShortAt : List ℕ → ℕ → ℕ → ShortValue → Type 0
-ShortAt s at end r =
-    (v : Spans) → shortValueRead (getD s at 0) at r ≡ shortValue v → shortValueOf at (readValue s at end) ≡ shortValue v
+abbrev pub ShortAt : ℕ → List ℕ → ℕ → ℕ → ShortValue → Type 0
+ShortAt limit s at end r =
+    (v : Spans) → shortValueRead (getD s at 0) at r ≡ shortValue v → shortValueOf at (readValue limit s at end) ≡ shortValue v

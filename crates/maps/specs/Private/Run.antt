@@ -9,7 +9,7 @@ use Rattle.stepping.specs.Leaving.{leftOf, onLeft}
 use Rattle.stepping.specs.declared.cursor.Rules.{Rules}
 
 -- the answers of n steps, each from where the one before left its caller, up to the end or a refusal
-unfoldable pub stepRun : ℕ → Rules → List ℕ → ℕ → ℕ → List (Outcome Item)
-stepRun zero rules s at end = []
-stepRun (suc n) rules s at end =
-    answerAt rules s at end ∷ onLeft (leftOf (answerAt rules s at end)) [] (λ e. stepRun n rules s e end)
+unfoldable pub stepRun : ℕ → ℕ → Rules → List ℕ → ℕ → ℕ → List (Outcome Item)
+stepRun limit zero rules s at end = []
+stepRun limit (suc n) rules s at end =
+    answerAt limit rules s at end ∷ onLeft (leftOf (answerAt limit rules s at end)) [] (λ e. stepRun limit n rules s e end)

@@ -64,11 +64,11 @@ abbrev B : Lfts 1 → RattleType
 B κs = R.the-row (namedLft 1 0 tt κs)
 
 abbrev stayed : Stays (first.ended .signature .params) (first.ended .kept)
-stayed = (stay-none-slice (0 ∷ []) tt (plain (λ _. u8)) yes, (stay-none (λ _. usize) yes, (stay-none (λ _. usize) yes, (stay-none (λ _. u64) yes, tt))))
+stayed = (stay-none-slice (0 ∷ []) tt (plain (λ _. u8)) yes, (stay-none (λ _. usize) yes, (stay-none (λ _. usize) yes, (stay-none (λ _. u64) yes, (stay-none (λ _. usize) yes, tt)))))
 
 -- what a reader's next item is
 abbrev nextOf : Reader → Stepped
-nextOf r = stepThrough (now (r .map)) (r .at) (r .end) (r .kind)
+nextOf r = stepThrough (r .limit) (now (r .map)) (r .at) (r .end) (r .kind)
 
 module _ {M : Type 1} (𝓤 : URA M) (H : Heap 𝓤) (A : Atoms 𝓤) (mem : Memory → SProp 𝓤) (run : Routine → Fun 𝓤) where
   -- the callees' contracts
@@ -79,7 +79,7 @@ module _ {M : Type 1} (𝓤 : URA M) (H : Heap 𝓤) (A : Atoms 𝓤) (mem : Mem
   Next = tripleOf 𝓤 H A next.signature (next.spec 𝓤 H A mem run)
 
 module _ {M : Type 1} (𝓤 : URA M) (H : Heap 𝓤) (A : Atoms 𝓤) (W : Given 𝓤 H A) (mem : Memory → SProp 𝓤) (run : Routine → Fun 𝓤) where
-  module _ (κ : Lft) (q : Share) (s : RefT (List ℕ)) (a b k : ℕ) (a-fits : a < 2 ^ 64) (b-fits : b < 2 ^ 64) (k-fits : k < 2 ^ 64) where
+  module _ (κ : Lft) (q : Share) (s : RefT (List ℕ)) (a b k n : ℕ) (a-fits : a < 2 ^ 64) (b-fits : b < 2 ^ 64) (k-fits : k < 2 ^ 64) (n-fits : n < 2 ^ 64) where
     -- the slice's machine value, and what it owns there
     abbrev v : Val
     v = sliceVal (s .ptr) (length (s .now))
@@ -89,16 +89,16 @@ module _ {M : Type 1} (𝓤 : URA M) (H : Heap 𝓤) (A : Atoms 𝓤) (W : Given
 
     -- the parameters, which `open_part` is passed as they are, and what they own
     abbrev args : Args first.signature (κ, tt)
-    args = (s, (a, (b, (k, tt))))
+    args = (s, (a, (b, (k, (n, tt)))))
 
     abbrev vals : Vals first.signature (κ, tt)
-    vals = (v ∷ [], (vint w64 a ∷ [], (vint w64 b ∷ [], (vint w64 k ∷ [], tt))))
+    vals = (v ∷ [], (vint w64 a ∷ [], (vint w64 b ∷ [], (vint w64 k ∷ [], (vint w64 n ∷ [], tt)))))
 
     abbrev All : Fml
-    All = owns (ShrSlice (named 0) κ u8 ∷ usize ∷ usize ∷ u64 ∷ []) args vals
+    All = owns (ShrSlice (named 0) κ u8 ∷ usize ∷ usize ∷ u64 ∷ usize ∷ []) args vals
 
     abbrev answer : Stepped
-    answer = stepThrough (now s) a b k
+    answer = stepThrough n (now s) a b k
 
     abbrev Post : Val → SProp 𝓤
     Post = walkOf 𝓤 H A first.ended stayed (first.clauses 𝓤 H A mem run) .post (((κ, tt), (q, tt), tt, args, vals), tt)
@@ -108,14 +108,14 @@ module _ {M : Type 1} (𝓤 : URA M) (H : Heap 𝓤) (A : Atoms 𝓤) (W : Given
     to-open = (((κ, tt), (q, tt), tt, args, vals), tt)
 
     abbrev Opened : Reader → Type 0
-    Opened r = (r .map ≡ s) × (r .at ≡ a) × (r .end ≡ b) × (r .kind ≡ k)
+    Opened r = (r .map ≡ s) × (r .at ≡ a) × (r .end ≡ b) × (r .kind ≡ k) × (r .limit ≡ n)
 
     goes-open : ent 𝓤 (onEntry 𝓤 H A first.signature (κ, tt) (q, tt) args vals) (sep 𝓤 (Open 𝓤 H A mem run .pre to-open) (sem 𝓤 H A All))
     goes-open =
         qed W ((‵ (flft κ q) ⊛ ‵ ftrue) ∷ ‵ All ∷ []) ∵
         move ! (1 ∷ []) $ fsplit ! $ use1 W (‵ Own ⊛ ‵ Own) (shr-slice-copy 𝓤 H A W (named 0) κ u8 .twice s (v ∷ [])) $ split ! $
         -- [what the slice owns; the same; what the numbers own; the token]: what the numbers own is had again
-        nothing ! $ owned ! u64 (Is u64) (uint-makes 𝓤 H A W w64) k _ (refl, k-fits) $ fjoin ! $
+        nothing ! $ owned ! usize (Is usize) (uint-makes 𝓤 H A W w64) n _ (refl, n-fits) $ fjoin ! $ owned ! u64 (Is u64) (uint-makes 𝓤 H A W w64) k _ (refl, k-fits) $ fjoin ! $
         owned ! usize (Is usize) (uint-makes 𝓤 H A W w64) b _ (refl, b-fits) $ fjoin ! $
         owned ! usize (Is usize) (uint-makes 𝓤 H A W w64) a _ (refl, a-fits) $ fjoin ! $
         move ! (1 ∷ 0 ∷ []) $ fjoin ! $ move ! (3 ∷ 0 ∷ []) $
@@ -136,12 +136,12 @@ module _ {M : Type 1} (𝓤 : URA M) (H : Heap 𝓤) (A : Atoms 𝓤) (W : Given
 
     -- the next item of the reader opened is the one asked for
     same : (r : Reader) → Opened r → nextOf r ≡ answer
-    same r e = λ i. stepThrough (now (e .0 i)) (e .1 i) (e .2 i) (e .3 i)
+    same r e = λ i. stepThrough (e .4 i) (now (e .0 i)) (e .1 i) (e .2 i) (e .3 i)
 
     exits : (t : Step) (u : Val) → stepRead t ≡ answer → ent 𝓤 (⋆ 𝓤 H A (‵ (S.the-row .own t (u ∷ [])) ∷ (‵ (flft κ q) ⊛ ‵ ftrue) ∷ ‵ All ∷ [])) (Post u)
     exits t u e =
         qed W (‵ (S.the-row .own t (u ∷ [])) ∷ (‵ (flft κ q) ⊛ ‵ ftrue) ∷ ‵ All ∷ []) ∵
-        suffices ! _ (ends-at 𝓤 H A first.ended stayed (first.clauses 𝓤 H A mem run) W (((κ, tt), (q, tt), tt, args, vals), tt) u t (tt, (tt, (tt, (tt, tt)))) (tt, (tt, (tt, (tt, tt))))) $ says ! e $
+        suffices ! _ (ends-at 𝓤 H A first.ended stayed (first.clauses 𝓤 H A mem run) W (((κ, tt), (q, tt), tt, args, vals), tt) u t (tt, (tt, (tt, (tt, (tt, tt))))) (tt, (tt, (tt, (tt, (tt, tt)))))) $ says ! e $
         move ! (1 ∷ []) $ frame ! $ move ! (1 ∷ []) $ frame ! $ done !
 
     module _ (C : Calls 𝓤 H) (Λ : Loops 𝓤 H) (fm : FmC 𝓤 H (W .laws) C) (known-open : Triple 𝓤 (C #open-part) (Open 𝓤 H A mem run)) (known-next : Triple 𝓤 (C #next) (Next 𝓤 H A mem run)) where
@@ -149,46 +149,46 @@ module _ {M : Type 1} (𝓤 : URA M) (H : Heap 𝓤) (A : Atoms 𝓤) (W : Given
       abbrev αᵉ : NamedLft
       αᵉ = record { mir = erased; lft = κ }
 
-      walk : Is (ShrSlice (named 0) κ u8) s (v ∷ []) → ent 𝓤 (onEntry 𝓤 H A first.signature (κ, tt) (q, tt) args vals) (WpFn 𝓤 H C Λ code.function (v ∷ vint w64 a ∷ vint w64 b ∷ vint w64 k ∷ []) Post)
+      walk : Is (ShrSlice (named 0) κ u8) s (v ∷ []) → ent 𝓤 (onEntry 𝓤 H A first.signature (κ, tt) (q, tt) args vals) (WpFn 𝓤 H C Λ code.function (v ∷ vint w64 a ∷ vint w64 b ∷ vint w64 k ∷ vint w64 n ∷ []) Post)
       walk p =
-          qed W (raw (onEntry 𝓤 H A first.signature (κ, tt) (q, tt) args vals) ∷ []) ∵ enter ! C Λ code.function (v ∷ vint w64 a ∷ vint w64 b ∷ vint w64 k ∷ []) _ $
-          alloc1 ! (λ l₀. alloc1 ! (λ l₁. alloc1 ! (λ l₂. alloc1 ! (λ l₃. alloc1 ! (λ l₄. alloc1 ! (λ l₅. alloc0 ! $ params1 ! $
-          -- [room for _5; …; room for _4; …; room for _3; …; room for _2; …; room for _1; …; room for _0; …; what is had on entry]
-          pass1 ! (init ! 8 refl (shr-slice-lawful 𝓤 H A W (named 0) κ u8 .typed s (v ∷ []) p .0)) $
-          pass1 ! (init ! 6 refl (tt, record { fits = a-fits })) $ pass1 ! (init ! 4 refl (tt, record { fits = b-fits })) $ pass1 ! (init ! 2 refl (tt, record { fits = k-fits })) $ pass0 ! $
-          move ! (12 ∷ []) $ use1 W (raw (Open 𝓤 H A mem run .pre to-open) ⊛ ‵ All) goes-open $ split ! $
+          qed W (raw (onEntry 𝓤 H A first.signature (κ, tt) (q, tt) args vals) ∷ []) ∵ enter ! C Λ code.function (v ∷ vint w64 a ∷ vint w64 b ∷ vint w64 k ∷ vint w64 n ∷ []) _ $
+          alloc1 ! (λ l₀. alloc1 ! (λ l₁. alloc1 ! (λ l₂. alloc1 ! (λ l₃. alloc1 ! (λ l₄. alloc1 ! (λ l₅. alloc1 ! (λ l₆. alloc0 ! $ params1 ! $
+          -- [room for _6; …; room for _5; …; room for _4; …; room for _3; …; room for _2; …; room for _1; …; room for _0; …; what is had on entry]
+          pass1 ! (init ! 10 refl (shr-slice-lawful 𝓤 H A W (named 0) κ u8 .typed s (v ∷ []) p .0)) $
+          pass1 ! (init ! 8 refl (tt, record { fits = a-fits })) $ pass1 ! (init ! 6 refl (tt, record { fits = b-fits })) $ pass1 ! (init ! 4 refl (tt, record { fits = k-fits })) $ pass1 ! (init ! 2 refl (tt, record { fits = n-fits })) $ pass0 ! $
+          move ! (14 ∷ []) $ use1 W (raw (Open 𝓤 H A mem run .pre to-open) ⊛ ‵ All) goes-open $ split ! $
           calls-at ! fm (Open 𝓤 H A mem run) known-open to-open
-          (and-then ! (load ! (from ! (stop !)) (look ! 10 refl)) (and-then ! (load ! (from ! (stop !)) (look ! 8 refl)) (and-then ! (load ! (from ! (stop !)) (look ! 6 refl)) (and-then ! (load ! (from ! (stop !)) (look ! 4 refl)) (no-more !))))) (λ u.
+          (and-then ! (load ! (from ! (stop !)) (look ! 12 refl)) (and-then ! (load ! (from ! (stop !)) (look ! 10 refl)) (and-then ! (load ! (from ! (stop !)) (look ! 8 refl)) (and-then ! (load ! (from ! (stop !)) (look ! 6 refl)) (and-then ! (load ! (from ! (stop !)) (look ! 4 refl)) (no-more !)))))) (λ u.
           use1 W (later (some (λ (r : Reader). ((‵ (flft κ q) ⊛ ‵ ftrue) ⊛ ‵ (B (κ, tt) .own r (u ∷ []))) ⊛ raw (ensured 𝓤 H A opens.ended (opens.clauses 𝓤 H A mem run) (κ, tt) args tt r)))) (id⊢ 𝓤 _) $ await ! tt $ pick ! (λ r.
           split ! $ move ! (1 ∷ []) $ use1 W (raw (fact 𝓤 (Opened r))) (open-said r) $ heard ! (Opened r) (λ e. split ! $ move ! (1 ∷ []) $
-          -- [what the reader owns; the token; what the parameters own; room for _5; …; _4; …; _3; …; _2; …; _1; …; room for _0; …]
+          -- [what the reader owns; the token; what the parameters own; room for _6; …; _5; …; _4; …; _3; …; _2; …; _1; …; room for _0; …]
           peeks ! (B (κ, tt)) (Is (B (κ, tt))) (shows 𝓤 H A (B (κ, tt))) r (u ∷ []) (λ is.
           land ! (from ! (stop !)) (init ! 3 refl (LL.lawful (R.the-type αᵉ) (R′.the-laws αᵉ) 𝓤 H A W .typed r _ is .0)) $
           use2 W (raw (Next 𝓤 H A mem run .pre (to-next r u))) (goes-next r u) $
           calls-at ! fm (Next 𝓤 H A mem run) known-next (to-next r u) (and-then ! (load ! (from ! (stop !)) (look ! 2 refl)) (no-more !)) (λ u′.
           use1 W (later (some (λ (t : Step). ((‵ (flft κ q) ⊛ ‵ ftrue) ⊛ ‵ (S.the-row .own t (u′ ∷ []))) ⊛ raw (ensured 𝓤 H A next.ended (next.clauses 𝓤 H A mem run) (κ, tt) (r, tt) tt t)))) (id⊢ 𝓤 _) $ await ! tt $ pick ! (λ t.
           split ! $ move ! (1 ∷ []) $ use1 W (raw (fact 𝓤 (stepRead t ≡ nextOf r))) (next-said r t) $ heard ! (stepRead t ≡ nextOf r) (λ e′. split ! $ move ! (1 ∷ []) $
-          -- [the result; the token; what the parameters own; _5; …; _4; …; _3; …; _2; …; _1; …; room for _0; …]
+          -- [the result; the token; what the parameters own; _6; …; _5; …; _4; …; _3; …; _2; …; _1; …; room for _0; …]
           peeks ! S.the-row (Is S.the-row) (shows 𝓤 H A S.the-row) t (u′ ∷ []) (λ is′.
-          land ! (from ! (stop !)) (init ! 13 refl (LL.lawful S.the-type S′.the-laws 𝓤 H A W .typed t _ is′ .0)) $
-          returns ! (look ! 13 refl) $ forget ! 3 refl $ forget ! 5 refl $ forget ! 7 refl $ forget ! 9 refl $ forget ! 11 refl $ forget ! 13 refl $
-          move ! (13 ∷ 14 ∷ []) $ free1 ! $ move ! (11 ∷ 12 ∷ []) $ free1 ! $ move ! (9 ∷ 10 ∷ []) $ free1 ! $
-          move ! (7 ∷ 8 ∷ []) $ free1 ! $ move ! (5 ∷ 6 ∷ []) $ free1 ! $ move ! (3 ∷ 4 ∷ []) $ free1 ! $ free0 ! $ by ! (exits t u′ (e′ ∙ same r e))))))))))))))))
+          land ! (from ! (stop !)) (init ! 15 refl (LL.lawful S.the-type S′.the-laws 𝓤 H A W .typed t _ is′ .0)) $
+          returns ! (look ! 15 refl) $ forget ! 3 refl $ forget ! 5 refl $ forget ! 7 refl $ forget ! 9 refl $ forget ! 11 refl $ forget ! 13 refl $ forget ! 15 refl $
+          move ! (15 ∷ 16 ∷ []) $ free1 ! $ move ! (13 ∷ 14 ∷ []) $ free1 ! $ move ! (11 ∷ 12 ∷ []) $ free1 ! $ move ! (9 ∷ 10 ∷ []) $ free1 ! $
+          move ! (7 ∷ 8 ∷ []) $ free1 ! $ move ! (5 ∷ 6 ∷ []) $ free1 ! $ move ! (3 ∷ 4 ∷ []) $ free1 ! $ free0 ! $ by ! (exits t u′ (e′ ∙ same r e)))))))))))))))))
 
   walks : (C : Calls 𝓤 H) (Λ : Loops 𝓤 H) → FmC 𝓤 H (W .laws) C → Triple 𝓤 (C #open-part) (Open 𝓤 H A mem run) → Triple 𝓤 (C #next) (Next 𝓤 H A mem run)
       → Walks 𝓤 H A first.ended stayed (WpFn 𝓤 H C Λ code.function) (first.clauses 𝓤 H A mem run)
   walks C Λ fm known-open known-next =
       walked 𝓤 H A first.ended stayed (first.clauses 𝓤 H A mem run) (WpFn 𝓤 H C Λ code.function)
-      (λ κs. (slice-vals, (uint-vals w64, (uint-vals w64, (uint-vals w64, tt))))) (λ κs. (shr-slice-tells (named 0) (κs .0) u8, (uint-tells w64, (uint-tells w64, (uint-tells w64, tt)))))
+      (λ κs. (slice-vals, (uint-vals w64, (uint-vals w64, (uint-vals w64, (uint-vals w64, tt)))))) (λ κs. (shr-slice-tells (named 0) (κs .0) u8, (uint-tells w64, (uint-tells w64, (uint-tells w64, (uint-tells w64, tt))))))
       (λ κs qs bounds x g are. via 𝓤 _ (fst∗ 𝓤 _ (emp 𝓤))
-      (walk (κs .0) (qs .0) (x .0) (x .1 .0) (x .1 .1 .0) (x .1 .1 .1 .0) (are .1 .0 .1) (are .1 .1 .0 .1) (are .1 .1 .1 .0 .1) C Λ fm known-open known-next (are .0)))
+      (walk (κs .0) (qs .0) (x .0) (x .1 .0) (x .1 .1 .0) (x .1 .1 .1 .0) (x .1 .1 .1 .1 .0) (are .1 .0 .1) (are .1 .1 .0 .1) (are .1 .1 .1 .0 .1) (are .1 .1 .1 .1 .0 .1) C Λ fm known-open known-next (are .0)))
 
 meets : {M : Type 1} (𝓤 : URA M) (H : Heap 𝓤) (A : Atoms 𝓤) (W : Given 𝓤 H A) (mem : Memory → SProp 𝓤) (run : Routine → Fun 𝓤) (𝓣 : Tables 𝓤 H)
     → Triple 𝓤 (𝓣 .C #open-part) (Open 𝓤 H A mem run) → Triple 𝓤 (𝓣 .C #next) (Next 𝓤 H A mem run)
     → Meets 𝓤 H A first.signature (WpFn 𝓤 H (𝓣 .C) (𝓣 .Λ) code.function) (first.spec 𝓤 H A mem run)
 meets 𝓤 H A W mem run 𝓣 known-open known-next =
     let number = goes-none 𝓤 H A W 1 (λ _. usize) yes (λ κs x f. refl) in
-    walk-meets 𝓤 H A first.ended stayed W (goes-none-slice 𝓤 H A W 1 (0 ∷ []) tt (plain (λ _. u8)) yes, (number, (number, (number, tt)))) (first.clauses 𝓤 H A mem run)
+    walk-meets 𝓤 H A first.ended stayed W (goes-none-slice 𝓤 H A W 1 (0 ∷ []) tt (plain (λ _. u8)) yes, (number, (number, (number, (number, tt))))) (first.clauses 𝓤 H A mem run)
     (WpFn 𝓤 H (𝓣 .C) (𝓣 .Λ) code.function) (WpFn-mono 𝓤 H (W .laws) 𝓣 code.function)
     (walks 𝓤 H A W mem run (𝓣 .C) (𝓣 .Λ) (fmOf 𝓤 H (W .laws) 𝓣) known-open known-next)
 

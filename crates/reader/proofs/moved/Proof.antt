@@ -69,7 +69,7 @@ module _ {M : Type 1} (𝓤 : URA M) (H : Heap 𝓤) (A : Atoms 𝓤) (W : Given
     vals = (m ∷ [], (vint w64 n ∷ [], tt))
 
     abbrev made : Reader
-    made = record { map = d .map; at = n; end = d .end; kind = d .kind }
+    made = record { map = d .map; at = n; end = d .end; kind = d .kind; limit = d .limit }
 
     abbrev Post : Val → SProp 𝓤
     Post = walkOf 𝓤 H A moved.ended stayed (moved.clauses 𝓤 H A mem run) .post (((κ, tt), (q, tt), tt, (d, (n, tt)), vals), tt)
@@ -78,26 +78,27 @@ module _ {M : Type 1} (𝓤 : URA M) (H : Heap 𝓤) (A : Atoms 𝓤) (W : Given
     exits =
         qed W ((‵ (flft κ q) ⊛ ‵ ftrue) ∷ ‵ (owns (B (κ, tt) ∷ usize ∷ []) (d, (n, tt)) vals) ∷ []) ∵
         suffices ! _ (ends-at 𝓤 H A moved.ended stayed (moved.clauses 𝓤 H A mem run) W (((κ, tt), (q, tt), tt, (d, (n, tt)), vals), tt) (R′.lowered made) made (tt, (tt, tt)) (tt, (tt, tt))) $
-        says ! (refl, refl, refl, refl) $
+        says ! (refl, refl, refl, refl, refl) $
         frame ! $ fsplit ! $ use1 W (‵ Own ⊛ ‵ Own) (LL.copy (D (κ, tt)) (R′.the-copy (namedLft 1 0 tt (κ, tt))) 𝓤 H A W .twice d (m ∷ [])) $ split ! $ move ! (0 ∷ 2 ∷ []) $ fjoin ! $ frame ! $
         -- [what the reader owns]
         owned ! usize (Is usize) (uint-makes 𝓤 H A W w64) n _ (refl, n-fits) $ move ! (1 ∷ 0 ∷ []) $
-        by ! (own-put 𝓤 H A W (D (κ, tt)) (L (κ, tt)) 1 (d .map, (d .at, (d .end, (d .kind, tt)))) n m)
+        by ! (own-put 𝓤 H A W (D (κ, tt)) (L (κ, tt)) 1 (d .map, (d .at, (d .end, (d .kind, (d .limit, tt))))) n m)
 
     module _ (C : Calls 𝓤 H) (Λ : Loops 𝓤 H) where
       walk : Holds (hasTy (R′.mir (named 0)) m) × WT m → ent 𝓤 (onEntry 𝓤 H A moved.signature (κ, tt) (q, tt) (d, (n, tt)) vals) (WpFn 𝓤 H C Λ code.function (m ∷ vint w64 n ∷ []) Post)
       walk wt =
           qed W (raw (onEntry 𝓤 H A moved.signature (κ, tt) (q, tt) (d, (n, tt)) vals) ∷ []) ∵ enter ! C Λ code.function (m ∷ vint w64 n ∷ []) _ $
-          alloc1 ! (λ l₀. alloc1 ! (λ l₁. alloc1 ! (λ l₂. alloc1 ! (λ l₃. alloc1 ! (λ l₄. alloc1 ! (λ l₅. alloc0 ! $ params1 ! $
-          -- [room for _5; …; room for _4; …; room for _3; …; room for _2; …; room for _1; …; room for _0; …; what is had on entry]
-          pass1 ! (init ! 8 refl wt) $ pass1 ! (init ! 6 refl (tt, record { fits = n-fits })) $ pass0 ! $
-          assigns ! (of-opd ! (load ! (from ! (fld ! refl (stop !))) (look-in ! 8 (sub ! 0 refl (whole !))))) (from ! (stop !)) (init ! 4 refl (tt, wt .1 .0)) $
-          assigns ! (of-opd ! (load ! (from ! (fld ! refl (stop !))) (look-in ! 8 (sub ! 2 refl (whole !))))) (from ! (stop !)) (init ! 2 refl (tt, wt .1 .1 .1 .0)) $
-          assigns ! (of-opd ! (load ! (from ! (fld ! refl (stop !))) (look-in ! 8 (sub ! 3 refl (whole !))))) (from ! (stop !)) (init ! 0 refl (tt, wt .1 .1 .1 .1 .0)) $
-          assigns ! (agg ! (and-then ! (load ! (from ! (stop !)) (look ! 4 refl)) (and-then ! (load ! (from ! (stop !)) (look ! 6 refl)) (and-then ! (load ! (from ! (stop !)) (look ! 2 refl)) (and-then ! (load ! (from ! (stop !)) (look ! 0 refl)) (no-more !))))))
-          (from ! (stop !)) (init ! 10 refl (tt, (wt .1 .0, (record { fits = n-fits }, (wt .1 .1 .1 .0, (wt .1 .1 .1 .1 .0, tt)))))) $
-          returns ! (look ! 10 refl) $ forget ! 0 refl $ forget ! 2 refl $ forget ! 4 refl $ forget ! 6 refl $ forget ! 8 refl $ forget ! 10 refl $
-          move ! (10 ∷ 11 ∷ []) $ free1 ! $ move ! (8 ∷ 9 ∷ []) $ free1 ! $ move ! (6 ∷ 7 ∷ []) $ free1 ! $ move ! (4 ∷ 5 ∷ []) $ free1 ! $ move ! (2 ∷ 3 ∷ []) $ free1 ! $ free1 ! $ free0 ! $ by ! exits))))))
+          alloc1 ! (λ l₀. alloc1 ! (λ l₁. alloc1 ! (λ l₂. alloc1 ! (λ l₃. alloc1 ! (λ l₄. alloc1 ! (λ l₅. alloc1 ! (λ l₆. alloc0 ! $ params1 ! $
+          -- [room for _6; …; room for _5; …; room for _4; …; room for _3; …; room for _2; …; room for _1; …; room for _0; …; what is had on entry]
+          pass1 ! (init ! 10 refl wt) $ pass1 ! (init ! 8 refl (tt, record { fits = n-fits })) $ pass0 ! $
+          assigns ! (of-opd ! (load ! (from ! (fld ! refl (stop !))) (look-in ! 10 (sub ! 0 refl (whole !))))) (from ! (stop !)) (init ! 6 refl (tt, wt .1 .0)) $
+          assigns ! (of-opd ! (load ! (from ! (fld ! refl (stop !))) (look-in ! 10 (sub ! 2 refl (whole !))))) (from ! (stop !)) (init ! 4 refl (tt, wt .1 .1 .1 .0)) $
+          assigns ! (of-opd ! (load ! (from ! (fld ! refl (stop !))) (look-in ! 10 (sub ! 3 refl (whole !))))) (from ! (stop !)) (init ! 2 refl (tt, wt .1 .1 .1 .1 .0)) $
+          assigns ! (of-opd ! (load ! (from ! (fld ! refl (stop !))) (look-in ! 10 (sub ! 4 refl (whole !))))) (from ! (stop !)) (init ! 0 refl (tt, wt .1 .1 .1 .1 .1 .0)) $
+          assigns ! (agg ! (and-then ! (load ! (from ! (stop !)) (look ! 6 refl)) (and-then ! (load ! (from ! (stop !)) (look ! 8 refl)) (and-then ! (load ! (from ! (stop !)) (look ! 4 refl)) (and-then ! (load ! (from ! (stop !)) (look ! 2 refl)) (and-then ! (load ! (from ! (stop !)) (look ! 0 refl)) (no-more !)))))))
+          (from ! (stop !)) (init ! 12 refl (tt, (wt .1 .0, (record { fits = n-fits }, (wt .1 .1 .1 .0, (wt .1 .1 .1 .1 .0, (wt .1 .1 .1 .1 .1 .0, tt))))))) $
+          returns ! (look ! 12 refl) $ forget ! 0 refl $ forget ! 2 refl $ forget ! 4 refl $ forget ! 6 refl $ forget ! 8 refl $ forget ! 10 refl $ forget ! 12 refl $
+          move ! (12 ∷ 13 ∷ []) $ free1 ! $ move ! (10 ∷ 11 ∷ []) $ free1 ! $ move ! (8 ∷ 9 ∷ []) $ free1 ! $ move ! (6 ∷ 7 ∷ []) $ free1 ! $ move ! (4 ∷ 5 ∷ []) $ free1 ! $ move ! (2 ∷ 3 ∷ []) $ free1 ! $ free1 ! $ free0 ! $ by ! exits)))))))
 
   walks : (C : Calls 𝓤 H) (Λ : Loops 𝓤 H) → Walks 𝓤 H A moved.ended stayed (WpFn 𝓤 H C Λ code.function) (moved.clauses 𝓤 H A mem run)
   walks C Λ =

@@ -1,4 +1,4 @@
--- `next` meets its contract, by a walk of its MIR: the reader's four fields are read into locals and passed to `step_through`, of which its contract alone is used.
+-- `next` meets its contract, by a walk of its MIR: the reader's five fields are read into locals and passed to `step_through`, of which its contract alone is used.
 -- A `Reader` is Copy, so what it owns is had twice: one copy stays for the exit, and the other, opened, is what the callee asks, since that takes the fields in their order.
 -- Assumes nothing.
 use mathlib.Core.Path.{_≡_, refl}
@@ -86,13 +86,13 @@ module _ {M : Type 1} (𝓤 : URA M) (H : Heap 𝓤) (A : Atoms 𝓤) (W : Given
 
   -- its fields: these the callee is passed, at these machine values
   abbrev fields : Values (D (κ, tt) .parts)
-  fields = (d .map, (d .at, (d .end, (d .kind, tt))))
+  fields = (d .map, (d .at, (d .end, (d .kind, (d .limit, tt)))))
 
   abbrev passed : Vals through.signature (κ, tt)
-  passed = (sliceVal (d .map .ptr) (length (d .map .now)) ∷ [], (vint w64 (d .at) ∷ [], (vint w64 (d .end) ∷ [], (vint w64 (d .kind) ∷ [], tt))))
+  passed = (sliceVal (d .map .ptr) (length (d .map .now)) ∷ [], (vint w64 (d .at) ∷ [], (vint w64 (d .end) ∷ [], (vint w64 (d .kind) ∷ [], (vint w64 (d .limit) ∷ [], tt)))))
 
   abbrev answer : Stepped
-  answer = stepThrough (now (d .map)) (d .at) (d .end) (d .kind)
+  answer = stepThrough (d .limit) (now (d .map)) (d .at) (d .end) (d .kind)
 
   abbrev Post : Val → SProp 𝓤
   Post = walkOf 𝓤 H A next.ended stayed (next.clauses 𝓤 H A mem run) .post (((κ, tt), (q, tt), tt, (d, tt), (m ∷ [], tt)), tt)
@@ -101,7 +101,7 @@ module _ {M : Type 1} (𝓤 : URA M) (H : Heap 𝓤) (A : Atoms 𝓤) (W : Given
   to = (((κ, tt), (q, tt), tt, fields, passed), tt)
 
   asked : ent 𝓤 (onEntry 𝓤 H A through.signature (κ, tt) (q, tt) fields passed) (Through 𝓤 H A mem run .pre to)
-  asked = qed W ((‵ (flft κ q) ⊛ ‵ ftrue) ∷ ‵ (owns (ShrSlice (named 0) κ u8 ∷ usize ∷ usize ∷ u64 ∷ []) fields passed) ∷ []) ∵ join ! $ frame ! $ done !
+  asked = qed W ((‵ (flft κ q) ⊛ ‵ ftrue) ∷ ‵ (owns (ShrSlice (named 0) κ u8 ∷ usize ∷ usize ∷ u64 ∷ usize ∷ []) fields passed) ∷ []) ∵ join ! $ frame ! $ done !
 
   -- the reader is taken apart: what the callee asks, and the copy that stays
   apart : ent 𝓤 (onEntry 𝓤 H A next.signature (κ, tt) (q, tt) (d, tt) (m ∷ [], tt)) (sep 𝓤 (Through 𝓤 H A mem run .pre to) (sem 𝓤 H A Own))
@@ -127,25 +127,26 @@ module _ {M : Type 1} (𝓤 : URA M) (H : Heap 𝓤) (A : Atoms 𝓤) (W : Given
     walk : Holds (hasTy (R′.mir (named 0)) m) × WT m → ent 𝓤 (onEntry 𝓤 H A next.signature (κ, tt) (q, tt) (d, tt) (m ∷ [], tt)) (WpFn 𝓤 H C Λ code.function (m ∷ []) Post)
     walk wt =
         qed W (raw (onEntry 𝓤 H A next.signature (κ, tt) (q, tt) (d, tt) (m ∷ [], tt)) ∷ []) ∵ enter ! C Λ code.function (m ∷ []) _ $
-        alloc1 ! (λ l₀. alloc1 ! (λ l₁. alloc1 ! (λ l₂. alloc1 ! (λ l₃. alloc1 ! (λ l₄. alloc1 ! (λ l₅. alloc0 ! $ params1 ! $
-        -- [room for _5; …; room for _2; …; room for _1; …; room for _0; …; what is had on entry]
-        pass1 ! (init ! 8 refl wt) $ pass0 ! $
-        assigns ! (of-opd ! (load ! (from ! (fld ! refl (stop !))) (look-in ! 8 (sub ! 0 refl (whole !))))) (from ! (stop !)) (init ! 6 refl (tt, wt .1 .0)) $
-        assigns ! (of-opd ! (load ! (from ! (fld ! refl (stop !))) (look-in ! 8 (sub ! 1 refl (whole !))))) (from ! (stop !)) (init ! 4 refl (tt, wt .1 .1 .0)) $
-        assigns ! (of-opd ! (load ! (from ! (fld ! refl (stop !))) (look-in ! 8 (sub ! 2 refl (whole !))))) (from ! (stop !)) (init ! 2 refl (tt, wt .1 .1 .1 .0)) $
-        assigns ! (of-opd ! (load ! (from ! (fld ! refl (stop !))) (look-in ! 8 (sub ! 3 refl (whole !))))) (from ! (stop !)) (init ! 0 refl (tt, wt .1 .1 .1 .1 .0)) $
-        move ! (12 ∷ []) $ use1 W (raw (Through 𝓤 H A mem run .pre to) ⊛ ‵ Own) apart $ split ! $
-        -- [what the callee asks; what the reader owns; _5; …; _4; …; _3; …; _2; …; _1; …; room for _0; …]
+        alloc1 ! (λ l₀. alloc1 ! (λ l₁. alloc1 ! (λ l₂. alloc1 ! (λ l₃. alloc1 ! (λ l₄. alloc1 ! (λ l₅. alloc1 ! (λ l₆. alloc0 ! $ params1 ! $
+        -- [room for _6; …; room for _2; …; room for _1; …; room for _0; …; what is had on entry]
+        pass1 ! (init ! 10 refl wt) $ pass0 ! $
+        assigns ! (of-opd ! (load ! (from ! (fld ! refl (stop !))) (look-in ! 10 (sub ! 0 refl (whole !))))) (from ! (stop !)) (init ! 8 refl (tt, wt .1 .0)) $
+        assigns ! (of-opd ! (load ! (from ! (fld ! refl (stop !))) (look-in ! 10 (sub ! 1 refl (whole !))))) (from ! (stop !)) (init ! 6 refl (tt, wt .1 .1 .0)) $
+        assigns ! (of-opd ! (load ! (from ! (fld ! refl (stop !))) (look-in ! 10 (sub ! 2 refl (whole !))))) (from ! (stop !)) (init ! 4 refl (tt, wt .1 .1 .1 .0)) $
+        assigns ! (of-opd ! (load ! (from ! (fld ! refl (stop !))) (look-in ! 10 (sub ! 3 refl (whole !))))) (from ! (stop !)) (init ! 2 refl (tt, wt .1 .1 .1 .1 .0)) $
+        assigns ! (of-opd ! (load ! (from ! (fld ! refl (stop !))) (look-in ! 10 (sub ! 4 refl (whole !))))) (from ! (stop !)) (init ! 0 refl (tt, wt .1 .1 .1 .1 .1 .0)) $
+        move ! (14 ∷ []) $ use1 W (raw (Through 𝓤 H A mem run .pre to) ⊛ ‵ Own) apart $ split ! $
+        -- [what the callee asks; what the reader owns; _6; …; _5; …; _4; …; _3; …; _2; …; _1; …; room for _0; …]
         calls-at ! fm (Through 𝓤 H A mem run) known to
-        (and-then ! (load ! (from ! (stop !)) (look ! 8 refl)) (and-then ! (load ! (from ! (stop !)) (look ! 6 refl)) (and-then ! (load ! (from ! (stop !)) (look ! 4 refl)) (and-then ! (load ! (from ! (stop !)) (look ! 2 refl)) (no-more !))))) (λ u.
+        (and-then ! (load ! (from ! (stop !)) (look ! 10 refl)) (and-then ! (load ! (from ! (stop !)) (look ! 8 refl)) (and-then ! (load ! (from ! (stop !)) (look ! 6 refl)) (and-then ! (load ! (from ! (stop !)) (look ! 4 refl)) (and-then ! (load ! (from ! (stop !)) (look ! 2 refl)) (no-more !)))))) (λ u.
         use1 W (later (some (λ (r : Step). ((‵ (flft κ q) ⊛ ‵ ftrue) ⊛ ‵ (S.the-row .own r (u ∷ []))) ⊛ raw (ensured 𝓤 H A through.ended (through.clauses 𝓤 H A mem run) (κ, tt) fields tt r)))) (id⊢ 𝓤 _) $ await ! tt $ pick ! (λ r.
         split ! $ move ! (1 ∷ []) $ use1 W (raw (fact 𝓤 (stepRead r ≡ answer))) (said r) $ heard ! (stepRead r ≡ answer) (λ e. split ! $ move ! (1 ∷ []) $
-        -- [the result; the token; what the reader owns; _5; …; _4; …; _3; …; _2; …; _1; …; room for _0; …]
+        -- [the result; the token; what the reader owns; _6; …; _5; …; _4; …; _3; …; _2; …; _1; …; room for _0; …]
         peeks ! S.the-row (Is S.the-row) (shows 𝓤 H A S.the-row) r (u ∷ []) (λ is.
-        land ! (from ! (stop !)) (init ! 13 refl (LL.lawful S.the-type S′.the-laws 𝓤 H A W .typed r _ is .0)) $
-        returns ! (look ! 13 refl) $ forget ! 3 refl $ forget ! 5 refl $ forget ! 7 refl $ forget ! 9 refl $ forget ! 11 refl $ forget ! 13 refl $
-        move ! (13 ∷ 14 ∷ []) $ free1 ! $ move ! (11 ∷ 12 ∷ []) $ free1 ! $ move ! (9 ∷ 10 ∷ []) $ free1 ! $
-        move ! (7 ∷ 8 ∷ []) $ free1 ! $ move ! (5 ∷ 6 ∷ []) $ free1 ! $ move ! (3 ∷ 4 ∷ []) $ free1 ! $ free0 ! $ by ! (exits r u e)))))))))))
+        land ! (from ! (stop !)) (init ! 15 refl (LL.lawful S.the-type S′.the-laws 𝓤 H A W .typed r _ is .0)) $
+        returns ! (look ! 15 refl) $ forget ! 3 refl $ forget ! 5 refl $ forget ! 7 refl $ forget ! 9 refl $ forget ! 11 refl $ forget ! 13 refl $ forget ! 15 refl $
+        move ! (15 ∷ 16 ∷ []) $ free1 ! $ move ! (13 ∷ 14 ∷ []) $ free1 ! $ move ! (11 ∷ 12 ∷ []) $ free1 ! $ move ! (9 ∷ 10 ∷ []) $ free1 ! $
+        move ! (7 ∷ 8 ∷ []) $ free1 ! $ move ! (5 ∷ 6 ∷ []) $ free1 ! $ move ! (3 ∷ 4 ∷ []) $ free1 ! $ free0 ! $ by ! (exits r u e))))))))))))
 
 module _ {M : Type 1} (𝓤 : URA M) (H : Heap 𝓤) (A : Atoms 𝓤) (W : Given 𝓤 H A) (mem : Memory → SProp 𝓤) (run : Routine → Fun 𝓤) where
   walks : (C : Calls 𝓤 H) (Λ : Loops 𝓤 H) → FmC 𝓤 H (W .laws) C → Triple 𝓤 (C #step-through) (Through 𝓤 H A mem run)

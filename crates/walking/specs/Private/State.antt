@@ -37,15 +37,15 @@ abbrev pub seenRead : Seen → Visit
 seenRead r = record { depth = r .depth; answer = itemRead (r .item) }
 
 -- a short value that is said at `at` is one
-abbrev pub ShortAt : List ℕ → ℕ → ℕ → ShortValue → Type 0
-ShortAt s at end r =
-    (v : Spans) → shortValueRead (getD s at 0) at r ≡ shortValue v → shortValueOf at (readValue s at end) ≡ shortValue v
+abbrev pub ShortAt : ℕ → List ℕ → ℕ → ℕ → ShortValue → Type 0
+ShortAt limit s at end r =
+    (v : Spans) → shortValueRead (getD s at 0) at r ≡ shortValue v → shortValueOf at (readValue limit s at end) ≡ shortValue v
 
 -- what is met at `at` is what a step there answers: a value behind some name; what stands behind the name that was read; or a refusal
-abbrev pub MetAt : Rules → List ℕ → ℕ → ℕ → Met → Type 0
-MetAt rules s at end (Value v) = (id : ℕ) × (answerAt rules s at end ≡ gives (itemBy rules at id (spansOf v)))
-MetAt rules s at end (Behind id next) = answerFrom rules s at end (record { value = id; next = next }) ≡ answerAt rules s at end
-MetAt rules s at end Refused = (number : ℕ) × (position : ℕ) × (answerAt rules s at end ≡ refuses number position)
+abbrev pub MetAt : ℕ → Rules → List ℕ → ℕ → ℕ → Met → Type 0
+MetAt limit rules s at end (Value v) = (id : ℕ) × (answerAt limit rules s at end ≡ gives (itemBy rules at id (spansOf v)))
+MetAt limit rules s at end (Behind id next) = answerFrom limit rules s at end (record { value = id; next = next }) ≡ answerAt limit rules s at end
+MetAt limit rules s at end Refused = (number : ℕ) × (position : ℕ) × (answerAt limit rules s at end ≡ refuses number position)
 
 abbrev pub isEnd : Outcome Item → Bool
 isEnd (gives (finish p)) = true

@@ -1,7 +1,7 @@
 //! What a record must hold for the Rust's answer to be ours.
 
 use crate::ours::{Part, Record, WORDS};
-use oracle::asking::{Annotation, Item, Number, Opened, Reading, Refusal, Scalar, Spans};
+use oracle::asking::{Annotation, Item, Limits, Number, Opened, Reading, Refusal, Scalar, Spans};
 use oracle::requests::Request;
 use oracle::IonType;
 
@@ -32,6 +32,8 @@ enum Test {
     Magnitude(u128),
     /// An Int: seven bits and the bytes after them.
     Further(u128),
+    /// Annotations that the Rust refuses, by a higher limit.
+    HigherLimit,
 }
 
 impl Expected {
@@ -59,6 +61,10 @@ impl Expected {
     pub fn refused(refusal: Refusal) -> Self {
         let words = |position| [9, refusal.number as u64, position as u64, 0, 0, 0, 0, 0, 0];
         let expected = match refusal.position {
+            _ if refusal.moved == Some(Request::HigherLimit) => {
+                let all: Vec<usize> = (0..WORDS).collect();
+                Expected::except(words(0), &all, Test::HigherLimit)
+            }
             Some(position) => Expected::exactly(words(position)),
             None => Expected::except(words(0), &[2], Test::Stands),
         };
@@ -247,12 +253,21 @@ impl Expected {
         self.words[1] as usize
     }
 
-    /// What the call returns.
-    pub fn returned(&self) -> u64 {
-        if self.is_refusal() {
-            self.words[1]
+    /// Whether the Rust has no answer here, and none to what follows.
+    pub fn is_by_higher_limit(&self) -> bool {
+        self.moved == Some(Request::HigherLimit)
+    }
+
+    /// What the call that leaves this record returns.
+    pub fn returned(&self, record: Record) -> u64 {
+        let words = if self.is_by_higher_limit() {
+            record.0
         } else {
-            0
+            self.words
+        };
+        match words[0] {
+            9 => words[1],
+            _ => 0,
         }
     }
 
@@ -287,6 +302,7 @@ impl Expected {
         let words: Vec<String> = words.map(word).collect();
         match self.test {
             Test::None | Test::Stands | Test::NoPart => words.join(" "),
+            Test::HigherLimit => "by the limit".to_string(),
             test => format!("{} {test:X?}", words.join(" ")),
         }
     }
@@ -343,8 +359,54 @@ impl Test {
                 Some(bytes) => word < 0x80 && folded(word as u128, bytes) == Some(magnitude),
                 None => false,
             },
+            Test::HigherLimit => is_by_limit(map, part, record),
         }
     }
+}
+
+/// Whether this can be the answer at over 255 bytes of annotations: a value with no more than the limit has,
+/// 26 where they are over it, or what is tested later.
+fn is_by_limit(map: &[u8], part: Part, record: Record) -> bool {
+    let [kind, number, position, annotations, descriptor, ..] = record.0;
+    let within = Limits::USUAL.annotations + 1..=part.limits.annotations;
+    match kind {
+        2 | 3 => within.contains(&(descriptor.wrapping_sub(annotations) as usize)),
+        6 | 7 => true,
+        9 if number == 26 => is_over_limit(map, part, position as usize),
+        9 => matches!(number, 1 | 3 | 8 | 20 | 22 | 27..=36 | 52),
+        _ => false,
+    }
+}
+
+/// Whether a wrapper stands at `at` whose annotations are over the limit: by the Ion document.
+pub fn is_over_limit(map: &[u8], part: Part, at: usize) -> bool {
+    let is_wrapper = may_stand(26, map, part, at);
+    let found = is_wrapper
+        .then(|| inside_wrapper(map, at, part.end))
+        .flatten();
+    found.is_some_and(|(start, inner)| inner - start > part.limits.annotations)
+}
+
+/// Where the VarUInt at `at` ends, and what it is.
+pub fn var_uint(map: &[u8], at: usize, end: usize) -> Option<(usize, usize)> {
+    let mut number = 0usize;
+    for next in at..end {
+        number = number.wrapping_shl(7) | (map[next] & 0x7F) as usize;
+        if map[next] >= 0x80 {
+            return Some((number, next + 1));
+        }
+    }
+    None
+}
+
+/// Where the annotations and the value of the wrapper at `at` begin.
+pub fn inside_wrapper(map: &[u8], at: usize, end: usize) -> Option<(usize, usize)> {
+    let lengths = match map[at] & 15 {
+        14 => var_uint(map, at + 1, end)?.1,
+        _ => at + 1,
+    };
+    let (size, start) = var_uint(map, lengths, end)?;
+    Some((start, start + size))
 }
 
 fn part_of(map: &[u8], start: u64, end: u64) -> Option<&[u8]> {

@@ -6,6 +6,7 @@ use crate::maps::{BAD_TEXTS, DOUBLES, GOOD_TEXTS, INTERESTING, LARGE, SINGLES, S
 use crate::ours::{Part, Reader, RECORD, WORD};
 use crate::question::{Ask, ENTRIES, INT, SEQUENCE, STREAM, STRUCT, VAR_INT, VAR_UINT};
 use crate::session::Session;
+use oracle::asking::Limits;
 
 /// How much is asked.
 #[derive(Clone, Copy)]
@@ -17,6 +18,7 @@ pub struct Plan {
     pub maps: usize,
     pub boundaries: usize,
     pub parts: usize,
+    pub limits: usize,
 }
 
 pub const FULL: Plan = Plan {
@@ -25,6 +27,7 @@ pub const FULL: Plan = Plan {
     maps: 60_000,
     boundaries: 2_000_000,
     parts: 10_000_000,
+    limits: 400_000,
 };
 
 pub const SHORT: Plan = Plan {
@@ -33,6 +36,7 @@ pub const SHORT: Plan = Plan {
     maps: 6_000,
     boundaries: 200_000,
     parts: 1_000_000,
+    limits: 40_000,
 };
 
 /// For the wrong readers.
@@ -42,6 +46,7 @@ pub const SMALLEST: Plan = Plan {
     maps: 100,
     boundaries: 20_000,
     parts: 20_000,
+    limits: 8_000,
 };
 
 /// Bytes that, of all, change the most where they stand.
@@ -71,6 +76,10 @@ pub fn ask_all<R: Reader>(session: &mut Session<R>, plan: Plan, seed: u64) {
     }
     session.stage("parts");
     parts(session, &mut random, plan.parts);
+    session.stage("limits");
+    for number in 0..plan.limits {
+        by_limits(session, &mut random, number);
+    }
     session.stage("end");
 }
 
@@ -88,11 +97,7 @@ pub fn seeds(random: &mut Random, count: usize) -> Vec<Vec<u8>> {
 
 /// The part up to an end.
 pub fn cut(end: usize) -> Part {
-    Part {
-        start: 0,
-        end,
-        position: 0,
-    }
+    Part::new(0, end, 0)
 }
 
 /// Every question at a position.
@@ -165,11 +170,7 @@ fn places(length: usize, random: &mut Random) -> Vec<usize> {
 /// The bodies and the annotations that the map is known to have.
 fn ask_inside<R: Reader>(session: &mut Session<R>, map: &Map) {
     let bytes = &map.bytes;
-    let inside = |start, end| Part {
-        start,
-        end,
-        position: start,
-    };
+    let inside = |start, end| Part::new(start, end, start);
     for (start, end, is_struct) in &map.bodies {
         let rules = if *is_struct { STRUCT } else { SEQUENCE };
         session.ask(bytes, Ask::Run(rules), inside(*start, *end));
@@ -373,6 +374,11 @@ fn cut_annotations(random: &mut Random) -> Vec<u8> {
         0 => random.pick(&[300, 16_383, 16_384, 1 << 32, (1 << 62) - 1]),
         _ => random.from_to(253, 258) as u64,
     };
+    annotations_cut(random, count)
+}
+
+/// A wrapper of so many bytes of annotations, and a few of them.
+fn annotations_cut(random: &mut Random, count: u64) -> Vec<u8> {
     let width = random.pick(&[1, 1, 1, 3, 9]);
     let length = var_uint(count, width);
     // With room for a value, and with too little.
@@ -565,11 +571,7 @@ fn any_part(random: &mut Random, length: usize) -> Part {
         _ if start <= end && end <= length => random.from_to(start, end),
         _ => start,
     };
-    Part {
-        start,
-        end,
-        position,
-    }
+    Part::new(start, end, position)
 }
 
 fn any_ask(random: &mut Random) -> Ask {
@@ -597,4 +599,70 @@ fn int_size(random: &mut Random) -> usize {
         1 => random.pick(&[usize::MAX, usize::MAX - 1, 1 << 63, 1 << 32]),
         _ => random.below(6),
     }
+}
+
+// ===== Limits =====
+
+/// A map near the limits that are given with it, or with one out of range.
+fn by_limits<R: Reader>(session: &mut Session<R>, random: &mut Random, number: usize) {
+    if session.is_done() {
+        return;
+    }
+    let limits = any_limits(random, number);
+    let bytes = near_limits(random, limits, number);
+    let whole = Part {
+        limits,
+        ..Part::whole(&bytes)
+    };
+    ask_whole(session, &bytes, whole);
+    let end = random.below(bytes.len() + 1);
+    ask_whole(session, &bytes, Part { end, ..whole });
+    let position = random.below(bytes.len() + 1);
+    ask_at(session, &bytes, whole.at(position));
+    session.ask(&bytes, Ask::Walked(number as u64 % 70), whole);
+    // Outside, or into too short a buffer: 51 is before 68, which is before 50.
+    let part = any_part(random, bytes.len());
+    let ask = any_ask(random);
+    if !matches!(ask, Ask::Walk | Ask::Walked(_)) {
+        session.ask(&bytes, ask, Part { limits, ..part });
+    }
+}
+
+fn any_limits(random: &mut Random, number: usize) -> Limits {
+    let mut limits = Limits {
+        annotations: random.pick(&[255, 255, 256, 257, 300, 300, 65534, 65535]),
+        depth: random.pick(&[1, 2, 3, 4, 31, 32, 33, 63, 64]),
+    };
+    match number % 16 {
+        0 => limits.annotations = random.pick(&[0, 1, 254, 65536, 65537, 1 << 32, usize::MAX]),
+        1 => limits.depth = random.pick(&[0, 65, 66, 1 << 32, usize::MAX]),
+        _ => {}
+    }
+    limits
+}
+
+fn near_limits(random: &mut Random, limits: Limits, number: usize) -> Vec<u8> {
+    let bytes = match number / 16 % 4 {
+        0 => {
+            // Of the highest limit rarely: such a map is long.
+            let most = match limits.annotations {
+                most @ 255..=300 => most,
+                most @ 65534..=65535 if number % 500 == 2 => most,
+                _ => 257,
+            };
+            let count = random.from_to(most - 2, most + 2);
+            random.annotated_by(count).bytes
+        }
+        1 => {
+            let limit = limits.annotations.clamp(255, 65535);
+            let count = random.from_to(limit - 2, limit + 2) as u64;
+            annotations_cut(random, count)
+        }
+        2 => {
+            let depth = random.from_to(limits.depth.clamp(1, 64), limits.depth.clamp(1, 64) + 2);
+            random.deep(depth).bytes
+        }
+        _ => random.any(SMALL).bytes,
+    };
+    placed(random, bytes)
 }

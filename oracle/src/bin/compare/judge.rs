@@ -1,12 +1,13 @@
 //! Asks both readers a question and compares what they answer.
 
-use crate::expected::{may_stand, Expected};
+use crate::expected::{is_over_limit, may_stand, Expected};
 use crate::ours::{Part, Reader, Record, RECORD};
 use crate::question::{Ask, Entry, Question, INT, KINDS, VAR_UINT};
 use crate::walking::Walk;
 use oracle::asking::{self, Annotations, Asked, Line, Refusal, Rules};
 use oracle::lazy::expanded::EncodingContext;
 use oracle::requests::{self, Request, Steps, REQUESTS};
+use std::ops::RangeInclusive;
 
 #[derive(Clone, Copy, Debug, PartialEq)]
 pub enum Verdict {
@@ -30,12 +31,14 @@ pub struct Tally {
     pub refusals: Refusals,
 }
 
-/// Refusals by number.
+/// How often something was met, by a refusal's number; the highest is 68.
+pub type Counts = [u64; 69];
+
 #[derive(Clone, Copy)]
 pub struct Refusals {
-    pub all: [u64; 64],
+    pub all: Counts,
     /// Those of them that are the harness's answers and not the Rust's.
-    pub own: [u64; 64],
+    pub own: Counts,
 }
 
 impl Refusals {
@@ -70,8 +73,8 @@ impl<R: Reader> Judge<R> {
                 moved: [0; REQUESTS.len()],
                 differ: 0,
                 refusals: Refusals {
-                    all: [0; 64],
-                    own: [0; 64],
+                    all: [0; 69],
+                    own: [0; 69],
                 },
             },
         }
@@ -195,9 +198,12 @@ impl<'a, R: Reader> Bench<'a, R> {
         let part = question.part;
         let fine = match question.ask {
             Ask::Short(entry, room) => self.short(entry, room, part),
-            // The part of a walk is cut out by the harness, so it is inside.
+            // The part of a walk is cut out by the harness, so it is inside, and so are the limits.
+            Ask::Walk if question.is_out_of_range() => true,
+            Ask::Walked(most) if question.is_out_of_range() => self.count_is(part, most, 0..=0),
+            _ if question.is_out_of_range() => self.refused(question, 68),
             Ask::Walk | Ask::Walked(_) if question.is_outside(self.map) => true,
-            _ if question.is_outside(self.map) => self.outside(question),
+            _ if question.is_outside(self.map) => self.refused(question, 50),
             Ask::Run(rules) => self.run(part, rules),
             Ask::Batch(rules, room) => self.batch(part, rules, room),
             Ask::Annotations => self.annotations(part),
@@ -220,7 +226,8 @@ impl<'a, R: Reader> Bench<'a, R> {
     }
 
     fn asked(&self, part: Part) -> Asked<'a> {
-        Asked::new(self.context, self.map, part.position, part.end).expect("the part is inside")
+        let asked = Asked::new(self.context, self.map, part.position, part.end);
+        asked.expect("the part is inside").by(part.limits)
     }
 
     fn count(&mut self, expected: &Expected) {
@@ -234,7 +241,7 @@ impl<'a, R: Reader> Bench<'a, R> {
     fn check(&mut self, part: Part, room: usize, returned: u64, expected: &Expected) -> bool {
         self.count(expected);
         let record = self.desk.record();
-        let fine = returned == expected.returned()
+        let fine = returned == expected.returned(record)
             && expected.is_met_by(self.map, part, record)
             && self.desk.is_untouched(RECORD, room);
         self.desk.note(
@@ -259,6 +266,9 @@ impl<'a, R: Reader> Bench<'a, R> {
                 .step(self.map, part, rules, self.desk.lend(room));
             if !self.check(part, room, returned, &expected) {
                 return false;
+            }
+            if expected.is_by_higher_limit() {
+                return true;
             }
             let next = self
                 .reader
@@ -292,10 +302,15 @@ impl<'a, R: Reader> Bench<'a, R> {
         let mut wanted = (0, 0);
         while (wanted.0 as usize) < room / RECORD {
             let expected = Expected::item(steps.next());
-            if !self.check_slot(wanted.0 as usize, part, rules, &expected) {
+            let index = wanted.0 as usize;
+            if !self.check_slot(index, part, rules, &expected) {
                 return false;
             }
-            wanted = (wanted.0 + 1, expected.returned());
+            if expected.is_by_higher_limit() {
+                return true;
+            }
+            let record = Record::read(self.desk.slot(index));
+            wanted = (wanted.0 + 1, expected.returned(record));
             if expected.is_end() || expected.is_refusal() {
                 break;
             }
@@ -318,7 +333,7 @@ impl<'a, R: Reader> Bench<'a, R> {
         let returned = self.reader.step(self.map, part, rules, &mut single);
         let record = Record::read(self.desk.slot(index));
         let fine = record == Record::read(&single)
-            && returned == expected.returned()
+            && returned == expected.returned(record)
             && expected.is_met_by(self.map, part, record);
         self.desk
             .note(fine, || expected.written(), || written(record));
@@ -420,6 +435,10 @@ impl<'a, R: Reader> Bench<'a, R> {
 
     fn check_line(&mut self, part: Part, rust: Line, ours: Line) -> bool {
         let fine = match (rust, ours) {
+            (Line::Refused(rust), ours) if rust.moved == Some(Request::HigherLimit) => {
+                self.moved = rust.moved;
+                self.is_line_by_limit(part, ours)
+            }
             (Line::Refused(rust), Line::Refused(ours)) => {
                 self.refusals.count(rust.number as usize, rust.own);
                 self.moved = self.moved.or(rust.moved);
@@ -430,6 +449,18 @@ impl<'a, R: Reader> Bench<'a, R> {
         self.desk
             .note(fine, || format!("{rust:?}"), || format!("{ours:?}"));
         fine
+    }
+
+    /// The walk says 26 only where annotations are over the limit.
+    fn is_line_by_limit(&self, part: Part, ours: Line) -> bool {
+        match ours {
+            Line::Refused(ours) if ours.number == 26 => {
+                let position = ours.position.expect("ours has one");
+                is_over_limit(self.map, part, position)
+            }
+            Line::End(_) => false,
+            _ => true,
+        }
     }
 
     fn is_position(&self, part: Part, rust: Refusal, ours: Refusal) -> bool {
@@ -447,25 +478,33 @@ impl<'a, R: Reader> Bench<'a, R> {
         let mut wanted = 0;
         requests::walk(&self.asked(part), &mut |line| match line {
             Line::Marker { .. } | Line::Value { .. } => wanted += 1,
-            // Of the requests this one alone changes the count: the Rust goes on.
-            Line::Refused(refusal) if refusal.moved == Some(Request::OneVersion) => {
-                self.moved = refusal.moved.filter(|_| wanted < most)
-            }
+            // Of the requests these change the count: the Rust goes on, or stops where the limit is higher.
+            Line::Refused(Refusal {
+                moved: moved @ Some(Request::OneVersion | Request::HigherLimit),
+                ..
+            }) => self.moved = moved.filter(|_| wanted < most),
             _ => {}
         });
-        let wanted = wanted.min(most);
+        let most_wanted = match self.moved {
+            Some(Request::HigherLimit) => most,
+            _ => wanted.min(most),
+        };
+        self.count_is(part, most, wanted.min(most)..=most_wanted)
+    }
+
+    fn count_is(&mut self, part: Part, most: u64, wanted: RangeInclusive<u64>) -> bool {
         let cut = &self.map[part.position..part.end];
-        let ours = self.reader.walked(cut, most);
-        let fine = ours == wanted;
+        let ours = self.reader.walked(cut, most, part.limits);
+        let fine = wanted.contains(&ours);
         self.desk
-            .note(fine, || wanted.to_string(), || ours.to_string());
+            .note(fine, || format!("{wanted:?}"), || ours.to_string());
         fine
     }
 
     // ===== What the caller does wrong: the harness knows the answer =====
 
-    fn outside(&mut self, question: &Question) -> bool {
-        let expected = Expected::refused(Refusal::own(50, Some(0)));
+    fn refused(&mut self, question: &Question, number: u32) -> bool {
+        let expected = Expected::refused(Refusal::own(number, Some(0)));
         let part = question.part;
         let mut count = UNSET;
         let (entry, kind, size) = match question.ask {

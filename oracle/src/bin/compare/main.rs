@@ -17,7 +17,7 @@ mod walking;
 mod wrong;
 
 use inputs::{ask_all, seeds, Plan, FULL, SHORT, SMALLEST};
-use judge::Tally;
+use judge::{Counts, Tally};
 use oracle::requests::REQUESTS;
 use ours::{Exports, Reader, MISSING};
 use question::KINDS;
@@ -27,7 +27,7 @@ use std::time::Instant;
 use wrong::{Mistake, Wrong, MISTAKES};
 
 /// The refusals that a comparison must have met.
-const REFUSALS: [std::ops::RangeInclusive<usize>; 4] = [1..=9, 20..=37, 50..=52, 60..=60];
+const REFUSALS: [std::ops::RangeInclusive<usize>; 5] = [1..=9, 20..=37, 50..=52, 60..=60, 68..=68];
 
 fn main() {
     session::keep_panics();
@@ -80,7 +80,7 @@ fn compare(plan: Plan, seed: u64) {
     exit((differ > 0 || !is_all_met) as i32)
 }
 
-fn missing_refusals(met: &[u64; 64]) -> Vec<usize> {
+fn missing_refusals(met: &Counts) -> Vec<usize> {
     REFUSALS
         .into_iter()
         .flatten()
@@ -93,7 +93,7 @@ fn moved(tally: &Tally) -> impl Iterator<Item = (&'static str, u64)> {
     REQUESTS.into_iter().zip(tally.moved)
 }
 
-fn listed(counts: &[u64; 64]) -> String {
+fn listed(counts: &Counts) -> String {
     let numbers = REFUSALS.into_iter().flatten();
     let word = |number: usize| match counts[number] {
         0 => String::new(),

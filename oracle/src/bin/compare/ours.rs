@@ -1,6 +1,8 @@
 //! Our reader: the functions that `libmaps.a` exports, and the layer through which they are asked.
 
+use oracle::asking::Limits;
 pub use oracle::RECORD_WORDS as WORDS;
+use std::ops::RangeInclusive;
 
 /// The bytes of a word, and those of a record.
 pub const WORD: usize = size_of::<u64>();
@@ -15,6 +17,7 @@ mod exported {
             end: usize,
             position: usize,
             kind: u64,
+            annotations: usize,
             out: *mut u8,
             room: usize,
         ) -> u64;
@@ -25,6 +28,7 @@ mod exported {
             end: usize,
             position: usize,
             kind: u64,
+            annotations: usize,
             out: *mut u8,
             room: usize,
             count: *mut u64,
@@ -44,6 +48,7 @@ mod exported {
             start: usize,
             end: usize,
             position: usize,
+            annotations: usize,
             out: *mut u8,
             room: usize,
         ) -> u64;
@@ -53,6 +58,7 @@ mod exported {
             start: usize,
             end: usize,
             position: usize,
+            annotations: usize,
             out: *mut u8,
             room: usize,
         ) -> u64;
@@ -67,7 +73,13 @@ mod exported {
             out: *mut u8,
             room: usize,
         ) -> u64;
-        pub fn ion_map_walked(map: *const u8, length: usize, most: u64) -> u64;
+        pub fn ion_map_walked(
+            map: *const u8,
+            length: usize,
+            most: u64,
+            annotations: usize,
+            depth: usize,
+        ) -> u64;
     }
 }
 
@@ -77,21 +89,31 @@ mod absent {
 }
 pub use absent::MISSING;
 
-/// A part of the map and a position in it, as every entry takes them.
+/// A part of the map and a position in it, as every entry takes them, and the limits of those that take any.
 #[derive(Clone, Copy, Debug, PartialEq)]
 pub struct Part {
     pub start: usize,
     pub end: usize,
     pub position: usize,
+    pub limits: Limits,
 }
 
+/// What a limit may be; all else is refusal 68.
+pub const ANNOTATIONS: RangeInclusive<usize> = 255..=65535;
+pub const DEPTHS: RangeInclusive<usize> = 1..=64;
+
 impl Part {
-    pub fn whole(map: &[u8]) -> Self {
+    pub fn new(start: usize, end: usize, position: usize) -> Self {
         Part {
-            start: 0,
-            end: map.len(),
-            position: 0,
+            start,
+            end,
+            position,
+            limits: Limits::USUAL,
         }
+    }
+
+    pub fn whole(map: &[u8]) -> Self {
+        Part::new(0, map.len(), 0)
     }
 
     pub fn at(self, position: usize) -> Self {
@@ -141,7 +163,7 @@ pub trait Reader {
     fn step_in(&self, map: &[u8], part: Part, out: &mut [u8]) -> u64;
     fn scalar(&self, map: &[u8], part: Part, out: &mut [u8]) -> u64;
     fn number(&self, map: &[u8], part: Part, form: u64, size: usize, out: &mut [u8]) -> u64;
-    fn walked(&self, map: &[u8], most: u64) -> u64;
+    fn walked(&self, map: &[u8], most: u64, limits: Limits) -> u64;
 
     /// The cursor for the next call: past an item, at the end, and after a refusal the one given.
     fn cursor(&self, _map: &[u8], part: Part, _kind: u64, record: Record) -> usize {
@@ -166,6 +188,7 @@ impl Reader for Exports {
                 part.end,
                 part.position,
                 kind,
+                part.limits.annotations,
                 out.as_mut_ptr(),
                 out.len(),
             )
@@ -181,6 +204,7 @@ impl Reader for Exports {
                 part.end,
                 part.position,
                 kind,
+                part.limits.annotations,
                 out.as_mut_ptr(),
                 out.len(),
                 count,
@@ -210,6 +234,7 @@ impl Reader for Exports {
                 part.start,
                 part.end,
                 part.position,
+                part.limits.annotations,
                 out.as_mut_ptr(),
                 out.len(),
             )
@@ -224,6 +249,7 @@ impl Reader for Exports {
                 part.start,
                 part.end,
                 part.position,
+                part.limits.annotations,
                 out.as_mut_ptr(),
                 out.len(),
             )
@@ -246,7 +272,8 @@ impl Reader for Exports {
         }
     }
 
-    fn walked(&self, map: &[u8], most: u64) -> u64 {
-        unsafe { exported::ion_map_walked(map.as_ptr(), map.len(), most) }
+    fn walked(&self, map: &[u8], most: u64, limits: Limits) -> u64 {
+        let Limits { annotations, depth } = limits;
+        unsafe { exported::ion_map_walked(map.as_ptr(), map.len(), most, annotations, depth) }
     }
 }

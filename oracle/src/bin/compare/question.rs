@@ -1,7 +1,8 @@
 //! Questions that both readers are asked, and how they are written.
 
 use crate::maps::hex;
-use crate::ours::{Part, MISSING};
+use crate::ours::{Part, ANNOTATIONS, DEPTHS, MISSING};
+use oracle::asking::Limits;
 use std::fmt;
 
 /// Parts are stepped by these rules; other numbers are refused.
@@ -61,7 +62,7 @@ pub struct Question {
 }
 
 /// What is counted apart, in the order of the report.
-pub const KINDS: [&str; 14] = [
+pub const KINDS: [&str; 15] = [
     "runs of stream steps",
     "runs of sequence steps",
     "runs of struct steps",
@@ -76,6 +77,7 @@ pub const KINDS: [&str; 14] = [
     "items of a walk, counted",
     "parts outside (50)",
     "short buffers (51)",
+    "limits out of range (68)",
 ];
 
 impl Question {
@@ -87,6 +89,7 @@ impl Question {
     pub fn kind(&self, map: &[u8]) -> usize {
         match self.ask {
             Ask::Short(..) => 13,
+            _ if self.is_out_of_range() => 14,
             _ if self.is_outside(map) => 12,
             Ask::Run(rules) => rules as usize,
             Ask::Batch(..) => 3,
@@ -119,6 +122,20 @@ impl Question {
         MISSING.is_empty() || !self.needs().iter().any(|name| MISSING.contains(name))
     }
 
+    /// Whether a limit is refused, whatever the other arguments are.
+    pub fn is_out_of_range(&self) -> bool {
+        let Limits { annotations, depth } = self.part.limits;
+        let (is_many, is_deep) = (
+            !ANNOTATIONS.contains(&annotations),
+            !DEPTHS.contains(&depth),
+        );
+        match self.ask {
+            Ask::Annotations | Ask::Number(..) => false,
+            Ask::Walk | Ask::Walked(_) => is_many || is_deep,
+            _ => is_many,
+        }
+    }
+
     /// Whether the caller's arguments are refused, whatever the bytes are.
     pub fn is_outside(&self, map: &[u8]) -> bool {
         let is_known = match self.ask {
@@ -135,9 +152,14 @@ impl Question {
             start,
             end,
             position,
+            limits,
         } = self.part;
+        let limits = match limits {
+            Limits::USUAL => String::new(),
+            Limits { annotations, depth } => format!(" by {annotations} and {depth}"),
+        };
         format!(
-            "{} {} part {start}..{end} at {position}",
+            "{} {} part {start}..{end} at {position}{limits}",
             self.ask,
             hex(map)
         )

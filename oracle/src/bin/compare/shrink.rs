@@ -10,8 +10,14 @@ pub fn is_smaller(map: &[u8], than: &[u8]) -> bool {
     (map.len(), map) < (than.len(), than)
 }
 
+/// A longer map has too many ways of being made smaller.
+const LONGEST: usize = 4096;
+
 /// Tries every way of making the case smaller until none is left that still differs.
 pub fn shrunk<R: Reader>(judge: &mut Judge<R>, case: Case) -> Case {
+    if case.map.len() > LONGEST {
+        return case;
+    }
     let refusals = judge.tally.refusals;
     let mut case = case;
     loop {
@@ -79,6 +85,7 @@ fn without(case: &Case, at: usize, size: usize) -> Case {
         start: moved(part.start),
         end: moved(part.end),
         position: moved(part.position),
+        ..part
     };
     Case {
         map,

@@ -1,7 +1,7 @@
 //! The walk over our exported step and stepping in: what a caller of the exports would write.
 
 use crate::ours::{Part, Reader, Record, RECORD};
-use oracle::asking::{Line, Refusal, DEPTH_LIMIT};
+use oracle::asking::{Line, Refusal};
 use oracle::IonType;
 
 pub struct Walk {
@@ -9,19 +9,13 @@ pub struct Walk {
     parts: Vec<(Part, u64)>,
     /// A refusal ends the walk.
     refused: Option<Refusal>,
-    limit: usize,
 }
 
 impl Walk {
     pub fn new(part: Part) -> Self {
-        Walk::limited(part, DEPTH_LIMIT)
-    }
-
-    pub fn limited(part: Part, limit: usize) -> Self {
         Walk {
             parts: vec![(part, 0)],
             refused: None,
-            limit,
         }
     }
 
@@ -55,7 +49,7 @@ impl Walk {
     /// Steps into the container that was handed out. The next line is of its body, or refused.
     fn enter(&mut self, reader: &impl Reader, map: &[u8], part: Part, record: Record) {
         let descriptor = record.0[4] as usize;
-        if self.parts.len() > self.limit {
+        if self.parts.len() > part.limits.depth {
             self.refused = Some(refusal(37, descriptor));
             return;
         }
@@ -71,6 +65,7 @@ impl Walk {
             start: start as usize,
             end: end as usize,
             position: start as usize,
+            ..part
         };
         self.parts.push((body, rules));
     }

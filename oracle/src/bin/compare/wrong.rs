@@ -1,10 +1,11 @@
 //! Wrong readers, to show that the comparison notices them: each is our reader with one answer
 //! changed, as a reader that makes this mistake would answer.
 
-use crate::ours::{Exports, Part, Reader, Record, RECORD, WORD, WORDS};
+use crate::expected::{inside_wrapper, var_uint};
+use crate::ours::{Exports, Part, Reader, Record, ANNOTATIONS, DEPTHS, RECORD, WORD, WORDS};
 use crate::question::{INT, SEQUENCE, STREAM, STRUCT, VAR_INT};
 use crate::walking::Walk;
-use oracle::asking::{Line, DEPTH_LIMIT};
+use oracle::asking::{Limits, Line};
 use std::cell::Cell;
 
 macro_rules! mistakes {
@@ -119,6 +120,16 @@ mistakes! {
     Depth33 "walks to depth 33"
     EndCounted "counts the walk's end as an item"
     VersionCounted "counts a marker that isn't 1.0 and what is behind it"
+    // The limits.
+    LimitOf255 "tests 255 bytes of annotations by whichever limit"
+    LimitOf254 "takes 254 as a limit of annotations"
+    LimitOf65536 "takes 65536 as a limit of annotations"
+    OutsideBeforeLimit "says 50 where a limit is out of range too"
+    LimitBeforeShort "says 68 into a short buffer"
+    DepthOf32 "walks to depth 32 by whichever limit"
+    DepthOf0 "walks with a limit of depth 0"
+    DepthOf65 "walks with a limit of depth 65"
+    OneDeeperAt64 "walks one deeper by the highest limit"
 }
 
 pub struct Wrong {
@@ -188,28 +199,6 @@ fn first_byte(map: &[u8], part: Part, kind: u64) -> Option<u8> {
     is_simple.then(|| map[part.position])
 }
 
-/// Where the VarUInt at `at` ends, and what it is.
-fn var_uint(map: &[u8], at: usize, end: usize) -> Option<(usize, usize)> {
-    let mut number = 0usize;
-    for next in at..end {
-        number = number.wrapping_shl(7) | (map[next] & 0x7F) as usize;
-        if map[next] >= 0x80 {
-            return Some((number, next + 1));
-        }
-    }
-    None
-}
-
-/// Where the annotations and the value of the wrapper at `at` begin.
-fn inside_wrapper(map: &[u8], at: usize, end: usize) -> Option<(usize, usize)> {
-    let lengths = match map[at] & 15 {
-        14 => var_uint(map, at + 1, end)?.1,
-        _ => at + 1,
-    };
-    let (size, start) = var_uint(map, lengths, end)?;
-    Some((start, start + size))
-}
-
 /// The ten bytes before a part's end have no last byte.
 fn is_long_and_open(map: &[u8], part: Part) -> bool {
     part.end - part.position >= 10 && map[part.end - 10..part.end].iter().all(|byte| *byte < 0x80)
@@ -239,7 +228,8 @@ fn with_old_length(part: Part, out: &mut [u8], call: impl FnOnce(Part, &mut [u8]
 impl Wrong {
     /// A step of the kinds of mistake that answer without looking at the true answer.
     fn instead(&self, map: &[u8], part: Part, kind: u64, out: &mut [u8]) -> Option<u64> {
-        if out.len() < RECORD || !part.is_inside(map) || kind > STRUCT {
+        let is_limit = ANNOTATIONS.contains(&part.limits.annotations);
+        if out.len() < RECORD || !is_limit || !part.is_inside(map) || kind > STRUCT {
             return None;
         }
         let Part {
@@ -502,9 +492,12 @@ impl Wrong {
         put(out, words)
     }
 
-    /// The items of the walk by another reader or with another limit.
-    fn counted(&self, reader: &impl Reader, map: &[u8], most: u64, limit: usize) -> u64 {
-        let mut walk = Walk::limited(Part::whole(map), limit);
+    /// The items of the walk by another reader or with other limits.
+    fn counted(&self, reader: &impl Reader, map: &[u8], most: u64, limits: Limits) -> u64 {
+        let mut walk = Walk::new(Part {
+            limits,
+            ..Part::whole(map)
+        });
         let mut count = 0;
         while count < most {
             match walk.next(reader, map) {
@@ -522,6 +515,39 @@ impl Wrong {
             at += 1 + map[at] as usize;
         }
         at
+    }
+
+    /// The part as a reader takes it that makes a mistake with the limit of annotations.
+    fn limited(&self, part: Part) -> Part {
+        let annotations = match (self.mistake, part.limits.annotations) {
+            (Mistake::LimitOf255, 255..=65535) | (Mistake::LimitOf254, 254) => 255,
+            (Mistake::LimitOf65536, 65536) => 65535,
+            (_, annotations) => annotations,
+        };
+        let depth = part.limits.depth;
+        Part {
+            limits: Limits { annotations, depth },
+            ..part
+        }
+    }
+
+    /// The mistakes with the limit, which every entry that takes it has, and those of all.
+    fn with_limit(
+        &self,
+        map: &[u8],
+        part: Part,
+        out: &mut [u8],
+        call: impl FnOnce(Part, &mut [u8]) -> u64,
+    ) -> u64 {
+        let part = self.limited(part);
+        let is_limit = ANNOTATIONS.contains(&part.limits.annotations);
+        match (self.mistake, out.len() < RECORD) {
+            (Mistake::LimitBeforeShort, true) if !is_limit => 68,
+            (Mistake::OutsideBeforeLimit, false) if !is_limit && !part.is_inside(map) => {
+                refuse(out, 50, 0)
+            }
+            _ => self.with_arguments(map, part, out, call),
+        }
     }
 
     /// The mistakes with the buffer and the arguments, which every entry of one part has.
@@ -562,21 +588,21 @@ impl Reader for Wrong {
             (Mistake::KindThree, 3) => STRUCT,
             _ => kind,
         };
-        self.with_arguments(map, part, out, |part, out| {
+        self.with_limit(map, part, out, |part, out| {
             if let Some(returned) = self.instead(map, part, kind, out) {
                 return returned;
             }
             let returned = Exports.step(map, part, kind, out);
             match returned {
-                50 | 51 => returned,
+                50 | 51 | 68 => returned,
                 _ => self.changed(map, part, kind, out, returned),
             }
         })
     }
 
     fn steps(&self, map: &[u8], part: Part, kind: u64, out: &mut [u8], count: &mut u64) -> u64 {
-        let mut returned = Exports.steps(map, part, kind, out, count);
-        if returned == 50 || returned == 51 {
+        let mut returned = Exports.steps(map, self.limited(part), kind, out, count);
+        if let 50 | 51 | 68 = returned {
             return returned;
         }
         // Single steps, so that only mistakes of this entry's own differ from those.
@@ -618,7 +644,7 @@ impl Reader for Wrong {
     }
 
     fn step_in(&self, map: &[u8], part: Part, out: &mut [u8]) -> u64 {
-        self.with_arguments(map, part, out, |part, out| {
+        self.with_limit(map, part, out, |part, out| {
             let returned = Exports.step_in(map, part, out);
             if returned == 51 {
                 return returned;
@@ -651,10 +677,10 @@ impl Reader for Wrong {
     }
 
     fn scalar(&self, map: &[u8], part: Part, out: &mut [u8]) -> u64 {
-        self.with_arguments(map, part, out, |part, out| {
+        self.with_limit(map, part, out, |part, out| {
             let returned = Exports.scalar(map, part, out);
             match returned {
-                50 | 51 => returned,
+                50 | 51 | 68 => returned,
                 _ => self.changed_scalar(map, part, out, returned),
             }
         })
@@ -670,14 +696,44 @@ impl Reader for Wrong {
         })
     }
 
-    fn walked(&self, map: &[u8], most: u64) -> u64 {
-        let count = Exports.walked(map, most);
+    fn walked(&self, map: &[u8], most: u64, limits: Limits) -> u64 {
+        let limits = match (self.mistake, limits.depth) {
+            (Mistake::DepthOf32, 1..=64) => Limits {
+                depth: 32,
+                ..limits
+            },
+            (Mistake::DepthOf0, 0) => Limits { depth: 1, ..limits },
+            (Mistake::DepthOf65, 65) => Limits {
+                depth: 64,
+                ..limits
+            },
+            _ => {
+                self.limited(Part {
+                    limits,
+                    ..Part::whole(map)
+                })
+                .limits
+            }
+        };
+        let Limits { annotations, depth } = limits;
+        let count = Exports.walked(map, most, limits);
+        if !ANNOTATIONS.contains(&annotations) || !DEPTHS.contains(&depth) {
+            return count;
+        }
+        let deeper = Limits {
+            depth: depth + 1,
+            ..limits
+        };
         match self.mistake {
-            Mistake::Depth31 => self.counted(&Exports, map, most, DEPTH_LIMIT - 1),
-            Mistake::Depth33 => self.counted(&Exports, map, most, DEPTH_LIMIT + 1),
+            Mistake::Depth31 => {
+                let depth = depth - 1;
+                self.counted(&Exports, map, most, Limits { depth, ..limits })
+            }
+            Mistake::Depth33 => self.counted(&Exports, map, most, deeper),
+            Mistake::OneDeeperAt64 if depth == 64 => self.counted(&Exports, map, most, deeper),
             Mistake::VersionCounted => {
                 let passing = Wrong::new(Mistake::AnyVersion);
-                self.counted(&passing, map, most, DEPTH_LIMIT)
+                self.counted(&passing, map, most, limits)
             }
             Mistake::EndCounted if count < most => count + 1,
             _ => count,

@@ -50,8 +50,8 @@ returns c =
     let r = q .before .before .before .before in
     let a = r .before .before .args in
     c .check-wrapper .ensures
-    ∙ then-by varUIntRead (wrapperTests (a .at) (a .end) _) (c .before .before .value .given .1) (q .read-var-uint .ensures)
-    ∙ then-by lengthRead (annotationsAt (a .s .now) (a .at) (a .end)) (q .before .before .body .given .1) (r .read-length .ensures)
+    ∙ then-by varUIntRead (wrapperTests (a .limit) (a .at) (a .end) _) (c .before .before .value .given .1) (q .read-var-uint .ensures)
+    ∙ then-by lengthRead (annotationsAt (a .limit) (a .s .now) (a .at) (a .end)) (q .before .before .body .given .1) (r .read-length .ensures)
 
 returns-2 : tie.Need-returns-2
 unfolding wrapperAt annotationsAt
@@ -59,15 +59,15 @@ returns-2 c =
     let q = c .before .before .before in
     let r = q .before .before .before .before in
     let a = r .before .before .args in
-    then-by varUIntRead (wrapperTests (a .at) (a .end) _) (c .before .refusal .given .1) (q .read-var-uint .ensures)
-    ∙ then-by lengthRead (annotationsAt (a .s .now) (a .at) (a .end)) (q .before .before .body .given .1) (r .read-length .ensures)
+    then-by varUIntRead (wrapperTests (a .limit) (a .at) (a .end) _) (c .before .refusal .given .1) (q .read-var-uint .ensures)
+    ∙ then-by lengthRead (annotationsAt (a .limit) (a .s .now) (a .at) (a .end)) (q .before .before .body .given .1) (r .read-length .ensures)
 
 returns-3 : tie.Need-returns-3
 unfolding wrapperAt
 returns-3 c =
     let r = c .before .before .before in
     let a = r .before .before .args in
-    then-by lengthRead (annotationsAt (a .s .now) (a .at) (a .end)) (c .before .refusal2 .given .1) (r .read-length .ensures)
+    then-by lengthRead (annotationsAt (a .limit) (a .s .now) (a .at) (a .end)) (c .before .refusal2 .given .1) (r .read-length .ensures)
 
 pub read-wrapper-spec : {M : Type 1} → statement M
 read-wrapper-spec =

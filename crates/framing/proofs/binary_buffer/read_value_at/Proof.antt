@@ -19,7 +19,7 @@ read-located-value-requires : tie.Need-read-located-value-requires
 read-located-value-requires c κs =
     let q = c .before .before .before in
     let a = q .before .before .args in
-    each-of (location-each (a .s .now) (a .at) (a .end) (a .descriptor) (omega arith) (omega arith)) (sym (q .locate-value .ensures) ∙ ap locatedRead (c .before .annotations .given .1))
+    each-of (location-each (a .limit) (a .s .now) (a .at) (a .end) (a .descriptor) (omega arith) (omega arith)) (sym (q .locate-value .ensures) ∙ ap locatedRead (c .before .annotations .given .1))
 
 enum-known-refusal : tie.Need-enum-known-refusal
 enum-known-refusal c = search needs
@@ -30,14 +30,14 @@ returns c =
     let a = q .before .before .args in
     c .read-located-value .ensures
     ∙ then-by locatedRead (locatedValue (a .s .now) (a .at) (a .end)) (c .before .before .annotations .given .1) (q .locate-value .ensures)
-    ∙ sym (value-located (a .s .now) (a .at) (a .end) (a .descriptor) (omega arith))
+    ∙ sym (value-located (a .limit) (a .s .now) (a .at) (a .end) (a .descriptor) (omega arith))
 
 returns-2 : tie.Need-returns-2
 returns-2 c =
     let q = c .before .before .before in
     let a = q .before .before .args in
     then-by locatedRead (locatedValue (a .s .now) (a .at) (a .end)) (c .before .refusal .given .1) (q .locate-value .ensures)
-    ∙ sym (value-located (a .s .now) (a .at) (a .end) (a .descriptor) (omega arith))
+    ∙ sym (value-located (a .limit) (a .s .now) (a .at) (a .end) (a .descriptor) (omega arith))
 
 pub read-value-at-spec : {M : Type 1} → statement M
 read-value-at-spec =

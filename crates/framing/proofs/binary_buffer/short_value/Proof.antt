@@ -2,7 +2,7 @@
 -- value without a wrapper and with a short length field.
 -- Assumes nothing.
 use borrow.Author.Needs.{needs}
-use Prim.Native.Nat.{_+_, _≤_, _<_}
+use Prim.Native.Nat.{ℕ, _+_, _≤_, _<_}
 use native.Mathlib.Omega.{arith}
 use borrow.Author.Tests.{not-true, not-false}
 use mathlib.Core.Path.{_≡_, _∙_, sym, ap}
@@ -27,8 +27,8 @@ in-part : (q : tie.Else2) → let a = q .before .before .before .args in (a .at 
 in-part q = (omega arith, omega arith)
 
 -- and only a value without a wrapper is said
-alone : (q : tie.Else2) → let a = q .before .before .before .args in shortValueOf (a .at) (readValue (a .s .now) (a .at) (a .end)) ≡ shortValueOf (a .at) (valueWithoutAnnotations (a .s .now) (a .at) (a .end) (here (a .s .now) (a .at)))
-alone q = let a = q .before .before .before .args in plain-said (a .s .now) (a .at) (a .end) (in-part q .0) (in-part q .1)
+alone : (limit : ℕ) (q : tie.Else2) → let a = q .before .before .before .args in shortValueOf (a .at) (readValue limit (a .s .now) (a .at) (a .end)) ≡ shortValueOf (a .at) (valueWithoutAnnotations (a .s .now) (a .at) (a .end) (here (a .s .now) (a .at)))
+alone limit q = let a = q .before .before .before .args in plain-said limit (a .s .now) (a .at) (a .end) (in-part q .0) (in-part q .1)
 
 -- a VarUInt says the length
 reads : (q : tie.Else4) → let a = q .before .before .before .before .before .before .before .before .args in hasLengthField (typeAt (a .s .now) (a .at)) (codeAt (a .s .now) (a .at)) ≡ true
@@ -39,12 +39,12 @@ read : (q : tie.After-short-var-uint) {x : ShortUnsigned} → shortVarUIntRead (
 read q h = sym (q .short-var-uint .ensures) ∙ h
 
 returns : tie.Need-returns
-returns c =
-    let a = c .before .before .args in sym (none-left (a .s .now) (a .at) (a .end) (λ h k. omega arith))
+returns c limit =
+    let a = c .before .before .args in sym (none-left limit (a .s .now) (a .at) (a .end) (λ h k. omega arith))
 
 returns-2 : tie.Need-returns-2
-returns-2 c =
-    let a = c .before .before .before .args in sym (none-left (a .s .now) (a .at) (a .end) (λ h k. omega arith))
+returns-2 c limit =
+    let a = c .before .before .before .args in sym (none-left limit (a .s .now) (a .at) (a .end) (λ h k. omega arith))
 
 shared-slice-read-byte : tie.Need-shared-slice-read-byte
 shared-slice-read-byte c = search needs
@@ -62,7 +62,7 @@ fit-short-requires : tie.Need-fit-short-requires
 fit-short-requires c κs = search needs
 
 returns-3 : tie.Need-returns-3
-returns-3 c =
+returns-3 c limit =
     let q = c .before .before .before in
     let e = q .before .before in
     let a = e .before .before .before .args in
@@ -70,18 +70,18 @@ returns-3 c =
     let told = inline-plain s (a .at) (a .end) (in-part e .0) (sym (q .has-inline-length .ensures) ∙ c .before .before .if3 .taken) in
     c .fit-short .ensures (getD s (a .at) 0)
     ∙ ap (λ n. shortValueOf (a .at) (fitting (a .at) (a .end) (getD s (a .at) 0) (record { body = a .at + 1; size = n }))) (c .before .inline-length .ensures)
-    ∙ sym (alone e ∙ ap (shortValueOf (a .at)) told)
+    ∙ sym (alone limit e ∙ ap (shortValueOf (a .at)) told)
 
 has-length-field-requires : tie.Need-has-length-field-requires
 has-length-field-requires c κs = search needs
 
 returns-4 : tie.Need-returns-4
-returns-4 c =
+returns-4 c limit =
     let t = c .before .before .before in
     let e = t .before .before in
     let a = e .before .before .before .args in
     sym
-    (alone e
+    (alone limit e
     ∙ never-said (a .at) (no-inline-plain (a .s .now) (a .at) (a .end) (in-part e .0) (sym (t .has-inline-length .ensures) ∙ c .before .before .if3 .left) (sym (c .before .has-length-field .ensures) ∙ not-true _ (c .if4 .taken))))
 
 short-var-uint-requires : tie.Need-short-var-uint-requires
@@ -94,14 +94,14 @@ too-short-requires : tie.Need-too-short-requires
 too-short-requires c κs = search needs
 
 returns-5 : tie.Need-returns-5
-returns-5 c =
+returns-5 c limit =
     let g = c .before .before .before in
     let q = g .before .before in
     let e = q .before .before .before .before .before .before in
     let a = e .before .before .before .args in
     let u : Unsigned = record { value = g .value .given .0 .0; next = g .value .given .0 .1 .0 } in
     let f = short-given (a .at + 1) (varUInt (a .s .now) (a .at + 1) (a .end)) (read q (ap shortVarUIntRead (g .value .given .1))) in
-    sym (alone e ∙ never-said (a .at) (few-plain (a .s .now) (a .at) (a .end) (in-part e .0) u (reads (q .before)) f (sym (c .before .too-short .ensures) ∙ c .if5 .taken)))
+    sym (alone limit e ∙ never-said (a .at) (few-plain (a .s .now) (a .at) (a .end) (in-part e .0) u (reads (q .before)) f (sym (c .before .too-short .ensures) ∙ c .if5 .taken)))
 
 fit-short-requires-2 : tie.Need-fit-short-requires-2
 fit-short-requires-2 c κs =
@@ -115,7 +115,7 @@ enum-told : tie.Need-enum-told
 enum-told c = search needs
 
 returns-6 : tie.Need-returns-6
-returns-6 c =
+returns-6 c limit =
     let g = c .before .before .before .before in
     let q = g .before .before in
     let e = q .before .before .before .before .before .before in
@@ -123,15 +123,15 @@ returns-6 c =
     let u : Unsigned = record { value = g .value .given .0 .0; next = g .value .given .0 .1 .0 } in
     let f = short-given (a .at + 1) (varUInt (a .s .now) (a .at + 1) (a .end)) (read q (ap shortVarUIntRead (g .value .given .1))) in
     let p = read-plain (a .s .now) (a .at) (a .end) (in-part e .0) u (reads (q .before)) f (sym (c .before .before .too-short .ensures) ∙ c .before .if5 .left) in
-    c .fit-short2 .ensures (getD (a .s .now) (a .at) 0) ∙ sym (alone e ∙ ap (shortValueOf (a .at)) p)
+    c .fit-short2 .ensures (getD (a .s .now) (a .at) 0) ∙ sym (alone limit e ∙ ap (shortValueOf (a .at)) p)
 
 returns-7 : tie.Need-returns-7
-returns-7 c =
+returns-7 c limit =
     let q = c .before .before in
     let e = q .before .before .before .before .before .before in
     let a = e .before .before .before .args in
     let l = none-long (a .at + 1) (varUInt (a .s .now) (a .at + 1) (a .end)) (read q (ap shortVarUIntRead (c .enum-told .given .1))) in
-    sym (alone e ∙ none-said (a .at) (each-map (long-plain (a .s .now) (a .at) (a .end) (in-part e .0) (reads (q .before)) l) (λ v h _. h)))
+    sym (alone limit e ∙ none-said (a .at) (each-map (long-plain (a .s .now) (a .at) (a .end) (in-part e .0) (reads (q .before)) l) (λ v h _. h)))
 
 pub short-value-spec : {M : Type 1} → statement M
 short-value-spec =

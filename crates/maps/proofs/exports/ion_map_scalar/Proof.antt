@@ -26,9 +26,9 @@ returns c =
     let q = p .before in
     let a = q .before .before .before .before .args in
     let old = a .out .now in
-    let o = readScalar (a .map .now) (a .start) (a .end) (a .position) in
+    let o = readScalar (a .limit) (a .map .now) (a .start) (a .end) (a .position) in
     let e = q .scalar-at .ensures in
-    (p .put-record .ensures .0 ∙ ap (λ (ws : List ℕ). returnedBy ws old) e ∙ returned-by (readingWords (readWithValue (a .map .now) (a .start) (a .end) (a .position))) old o (reading-number (a .map .now) (a .start) (a .end) (a .position)), p .put-record .ensures .1 ∙ ap (λ (ws : List ℕ). recordIn ws old) e)
+    (p .put-record .ensures .0 ∙ ap (λ (ws : List ℕ). returnedBy ws old) e ∙ returned-by (readingWords (readWithValue (a .limit) (a .map .now) (a .start) (a .end) (a .position))) old o (reading-number (a .limit) (a .map .now) (a .start) (a .end) (a .position)), p .put-record .ensures .1 ∙ ap (λ (ws : List ℕ). recordIn ws old) e)
 
 pub ion-map-scalar-spec : {M : Type 1} → statement M
 ion-map-scalar-spec = tie.close (tie.spec scalar-at-requires put-record-requires same-length returns)

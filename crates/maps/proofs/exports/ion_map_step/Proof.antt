@@ -29,7 +29,7 @@ returns c =
     let q = p .before in
     let a = q .before .before .before .before .before .args in
     let old = a .out .now in
-    let o = exportedStep (a .map .now) (a .start) (a .end) (a .position) (a .kind) in
+    let o = exportedStep (a .limit) (a .map .now) (a .start) (a .end) (a .position) (a .kind) in
     let e : q .item-words .result ≡ words o = q .item-words .ensures ∙ ap words (q .before .step-by-kind .ensures) in
     (p .put-record .ensures .0 ∙ ap (λ (ws : List ℕ). returnedBy ws old) e ∙ returned-by (words o) old o (step-number o), p .put-record .ensures .1 ∙ ap (λ (ws : List ℕ). recordIn ws old) e)
 

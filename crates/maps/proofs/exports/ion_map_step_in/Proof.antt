@@ -28,9 +28,9 @@ returns c =
     let q = p .before in
     let a = q .before .before .before .before .args in
     let old = a .out .now in
-    let o = stepIn (a .map .now) (a .start) (a .end) (a .position) in
+    let o = stepIn (a .limit) (a .map .now) (a .start) (a .end) (a .position) in
     let e = q .body-at .ensures in
-    (p .put-record .ensures .0 ∙ ap (λ (ws : List ℕ). returnedBy ws old) e ∙ returned-by (bodyWords (exportedBody (a .map .now) (a .start) (a .end) (a .position))) old o (body-number (a .map .now) (a .start) (a .end) (a .position)), p .put-record .ensures .1 ∙ ap (λ (ws : List ℕ). recordIn ws old) e)
+    (p .put-record .ensures .0 ∙ ap (λ (ws : List ℕ). returnedBy ws old) e ∙ returned-by (bodyWords (exportedBody (a .limit) (a .map .now) (a .start) (a .end) (a .position))) old o (body-number (a .limit) (a .map .now) (a .start) (a .end) (a .position)), p .put-record .ensures .1 ∙ ap (λ (ws : List ℕ). recordIn ws old) e)
 
 pub ion-map-step-in-spec : {M : Type 1} → statement M
 ion-map-step-in-spec = tie.close (tie.spec body-at-requires put-record-requires same-length returns)

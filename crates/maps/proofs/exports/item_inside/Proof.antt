@@ -26,7 +26,7 @@ ended : (c : tie.After-id) → let a = c .before .before .before .before .args i
 ended c =
     let q = c .before .before .before .before in
     let a = q .args in
-    name-in (a .rules) (a .map .now) (a .at) (a .end) (q .pre .0) (name c) (named c)
+    name-in (a .rules) (a .map .now) (a .at) (a .end) (q .pre .1) (name c) (named c)
 
 read-name-requires : tie.Need-read-name-requires
 read-name-requires c κs = search needs
@@ -35,7 +35,7 @@ enum-known-id : tie.Need-enum-known-id
 enum-known-id c = search needs
 
 short-at-requires : tie.Need-short-at-requires
-short-at-requires c κs = (ended (c .before) .high, c .before .before .before .before .before .pre .1)
+short-at-requires c κs = (ended (c .before) .high, c .before .before .before .before .before .pre .2)
 
 enum-known-body : tie.Need-enum-known-body
 enum-known-body c = search needs
@@ -43,7 +43,7 @@ enum-known-body c = search needs
 shared-slice-read-bare-value : tie.Need-shared-slice-read-bare-value
 shared-slice-read-bare-value c =
     let d = c .before .before .before .before .before .before in
-    omega (arith, ended d .high, d .before .before .before .before .pre .1)
+    omega (arith, ended d .high, d .before .before .before .before .pre .2)
 
 bare-value-requires : tie.Need-bare-value-requires
 bare-value-requires c κs = search needs
@@ -71,23 +71,23 @@ returns c =
     let s = a .map .now in
     let next = d .id .given .0 .1 .0 in
     let u : Spans = bareSpans (getD s next 0) next (b .body .given .0 .0) (b .body .given .0 .1 .0) in
-    let e = k .short-at .ensures u (ap (shortValueRead (getD s next 0) next) (b .body .given .1)) in
+    let e = k .short-at .ensures (a .limit) u (ap (shortValueRead (getD s next 0) next) (b .body .given .1)) in
     c .item-of .ensures
     ∙ ap (λ (x : Spans). gives (itemBy (a .rules) (a .at) (d .id .given .0 .0) x)) (v .bare-value .ensures)
-    ∙ sym (short-stepped (a .rules) s (a .at) (a .end) (q .pre .0) (q .pre .1) (name d) (named d) u e)
+    ∙ sym (short-stepped (a .limit) (a .rules) s (a .at) (a .end) (q .pre .0) (q .pre .1) (q .pre .2) (name d) (named d) u e)
 
 returns-2 : tie.Need-returns-2
 returns-2 c =
     let d = c .before .before .before .before .before in
     let q = d .before .before .before .before in
     let a = q .args in
-    c .item-from .ensures ∙ named-stepped (a .rules) (a .map .now) (a .at) (a .end) (q .pre .0) (name d) (named d)
+    c .item-from .ensures ∙ named-stepped (a .limit) (a .rules) (a .map .now) (a .at) (a .end) (name d) (named d)
 
 returns-3 : tie.Need-returns-3
 returns-3 c =
     let q = c .before .before .before .before .before in
     let a = q .args in
-    sym (unnamed-stepped (a .rules) (a .map .now) (a .at) (a .end) (q .pre .0) (q .pre .1) (sym (c .before .before .before .read-name .ensures) ∙ ap namedRead (c .before .refusal .given .1)))
+    sym (unnamed-stepped (a .limit) (a .rules) (a .map .now) (a .at) (a .end) (q .pre .0) (q .pre .1) (q .pre .2) (sym (c .before .before .before .read-name .ensures) ∙ ap namedRead (c .before .refusal .given .1)))
 
 pub item-inside-spec : {M : Type 1} → statement M
 item-inside-spec =

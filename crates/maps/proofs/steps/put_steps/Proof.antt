@@ -24,13 +24,13 @@ use Rattle.maps.proofs.steps.put_steps.Statement.{statement}
 use Rattle.maps.proofs.steps.put_steps.Tie as tie
 
 abbrev Inv-loop : tie.InvT-loop
-Inv-loop rules map position end out₀ room at₀ count₀ out at count =
-    let all = stepRun room rules map position end in
-    let left = stepRun (room - count) rules map at end in
+Inv-loop rules map position end limit out₀ room at₀ count₀ out at count =
+    let all = stepRun limit room rules map position end in
+    let left = stepRun limit (room - count) rules map at end in
     (length out ≡ length out₀) × (count ≤ room) × (room * recordSize ≤ length out₀) × (at ≤ end) × (sets out (count * recordSize) (bytesOf (allWords left)) ≡ sets out₀ 0 (bytesOf (allWords all))) × (count + length left ≡ length all) × (lastNumber 0 left ≡ lastNumber 0 all)
 
 abbrev μ-loop : tie.MeasureT-loop
-μ-loop rules map position end out₀ room at₀ count₀ out at count = room - count
+μ-loop rules map position end limit out₀ room at₀ count₀ out at count = room - count
 
 -- the answer of a step in the loop, its words, where it leaves its caller, and its record in the buffer
 module _ (b : tie.After-slice-known2 Inv-loop μ-loop) where
@@ -44,7 +44,7 @@ module _ (b : tie.After-slice-known2 Inv-loop μ-loop) where
   within = called .before
 
   abbrev o : Outcome Item
-  o = let a = within .before .before .before .before .args in answerAt (a .rules) (a .map .now) (within .before .loop .at) (a .end)
+  o = let a = within .before .before .before .before .args in answerAt (a .limit) (a .rules) (a .map .now) (within .before .loop .at) (a .end)
 
   words-are : called .step-words .result .words ≡ words o
   words-are = called .step-words .ensures .0
@@ -72,7 +72,7 @@ module _ (b : tie.After-slice-known2 Inv-loop μ-loop) where
       ap length after-is ∙ length-sets (l .out) (l .count * recordSize) (bytesOf (words o)) ∙ l .inv .0
 
   -- the records behind this one stored behind it
-  stored : let a = within .before .before .before .before .args in let l = within .before .loop in let room = length (a .out .now) / recordSize in (os : List (Outcome Item)) → stepRun (room - l .count) (a .rules) (a .map .now) (l .at) (a .end) ≡ o ∷ os → sets after ((l .count + 1) * recordSize) (bytesOf (allWords os)) ≡ sets (a .out .now) 0 (bytesOf (allWords (stepRun room (a .rules) (a .map .now) (a .position) (a .end))))
+  stored : let a = within .before .before .before .before .args in let l = within .before .loop in let room = length (a .out .now) / recordSize in (os : List (Outcome Item)) → stepRun (a .limit) (room - l .count) (a .rules) (a .map .now) (l .at) (a .end) ≡ o ∷ os → sets after ((l .count + 1) * recordSize) (bytesOf (allWords os)) ≡ sets (a .out .now) 0 (bytesOf (allWords (stepRun (a .limit) room (a .rules) (a .map .now) (a .position) (a .end))))
   stored os h =
       let l = within .before .loop in
       let k : (l .count + 1) * recordSize ≡ l .count * recordSize + recordSize = omega arith in
@@ -87,11 +87,11 @@ loop-holds c =
     let q = c .before .before in
     let a = q .args in
     let e : length (a .out .now) / recordSize - 0 ≡ length (a .out .now) / recordSize = omega arith in
-    let run : ℕ → List (Outcome Item) = λ k. stepRun k (a .rules) (a .map .now) (a .position) (a .end) in
-    (refl, omega arith, omega arith, q .pre .0, ap (λ (k : ℕ). sets (a .out .now) 0 (bytesOf (allWords (run k)))) e, (let f : length (run (length (a .out .now) / recordSize - 0)) ≡ length (run (length (a .out .now) / recordSize)) = ap (λ (k : ℕ). length (run k)) e in omega (arith, f)), ap (λ (k : ℕ). lastNumber 0 (run k)) e)
+    let run : ℕ → List (Outcome Item) = λ k. stepRun (a .limit) k (a .rules) (a .map .now) (a .position) (a .end) in
+    (refl, omega arith, omega arith, q .pre .1, ap (λ (k : ℕ). sets (a .out .now) 0 (bytesOf (allWords (run k)))) e, (let f : length (run (length (a .out .now) / recordSize - 0)) ≡ length (run (length (a .out .now) / recordSize)) = ap (λ (k : ℕ). length (run k)) e in omega (arith, f)), ap (λ (k : ℕ). lastNumber 0 (run k)) e)
 
 step-words-requires : tie.Need-step-words-requires Inv-loop μ-loop
-step-words-requires c κs = (c .before .loop .inv .3, c .before .before .before .before .pre .1)
+step-words-requires c κs = let q = c .before .before .before .before in (q .pre .0, c .before .loop .inv .3, q .pre .2)
 
 mul-from : tie.Need-mul-from Inv-loop μ-loop
 mul-from c = omega (arith, c .before .before .loop-test .taken, c .before .before .before .loop .inv .2)
@@ -129,9 +129,9 @@ loop-again c =
     let a = q .args in
     let e = c .before .left .given .0 .0 in
     let h : leftOf (o b) ≡ At e = leaves b (At e) (c .before .left .given .1) in
-    let os = stepRun (length (a .out .now) / recordSize - (l .count + 1)) (a .rules) (a .map .now) e (a .end) in
-    let m = one-more (a .rules) (a .map .now) (l .at) (a .end) (room-is b) e h in
-    (after-long b, omega (arith, t .loop-test .taken), l .inv .2, left-in (a .rules) (a .map .now) (l .at) (a .end) (l .inv .3) (q .pre .1) e h, stored b os m, omega (arith, l .inv .5, ap length m), sym (ap (λ (n : ℕ). lastNumber n os) (at-number (o b) e h)) ∙ sym (ap (lastNumber 0) m) ∙ l .inv .6)
+    let os = stepRun (a .limit) (length (a .out .now) / recordSize - (l .count + 1)) (a .rules) (a .map .now) e (a .end) in
+    let m = one-more (a .limit) (a .rules) (a .map .now) (l .at) (a .end) (room-is b) e h in
+    (after-long b, omega (arith, t .loop-test .taken), l .inv .2, left-in (a .limit) (a .rules) (a .map .now) (l .at) (a .end) (l .inv .3) (q .pre .2) e h, stored b os m, omega (arith, l .inv .5, ap length m), sym (ap (λ (n : ℕ). lastNumber n os) (at-number (o b) e h)) ∙ sym (ap (lastNumber 0) m) ∙ l .inv .6)
 
 enum-told : tie.Need-enum-told Inv-loop μ-loop
 enum-told c = search needs
@@ -146,7 +146,7 @@ returns c =
     let l = t .before .loop in
     let a = t .before .before .before .before .args in
     let part = midOf (l .count * recordSize) (l .count * recordSize + recordSize - l .count * recordSize) (l .out) in
-    let m = the-last (a .rules) (a .map .now) (l .at) (a .end) (room-is b) (leaves b Over (c .enum-told .given .1)) in
+    let m = the-last (a .limit) (a .rules) (a .map .now) (l .at) (a .end) (room-is b) (leaves b Over (c .enum-told .given .1)) in
     let n = returned-whole (words (o b)) part (mid-len (l .count * recordSize) (l .count * recordSize + recordSize) (l .out) (omega (arith, t .loop-test .taken, l .inv .0, l .inv .2)) ∙ omega arith) in
     (omega (arith, l .inv .5, ap length m), (put b .put-record .ensures .0 ∙ ap (λ (ws : List ℕ). returnedBy ws part) (words-are b) ∙ n ∙ step-number (o b) ∙ sym (ap (lastNumber 0) m) ∙ l .inv .6, stored b [] m))
 
@@ -158,7 +158,7 @@ returns-2 c =
     let l = c .before .loop in
     let a = c .before .before .before .before .args in
     let z : length (a .out .now) / recordSize - l .count ≡ 0 = omega (arith, c .loop-test .left, l .inv .1) in
-    let m = none-left (a .rules) (a .map .now) (l .at) (a .end) z in
+    let m = none-left (a .limit) (a .rules) (a .map .now) (l .at) (a .end) z in
     (omega (arith, l .inv .5, ap length m), (sym (ap (lastNumber 0) m) ∙ l .inv .6, sym (ap (λ (os : List (Outcome Item)). sets (l .out) (l .count * recordSize) (bytesOf (allWords os))) m) ∙ l .inv .4))
 
 pub put-steps-spec : {M : Type 1} → statement M

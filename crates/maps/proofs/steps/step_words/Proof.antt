@@ -23,7 +23,7 @@ use Rattle.maps.proofs.steps.step_words.Tie as tie
 
 -- past the first test something is left
 before : (c : tie.Else1) → c .before .before .args .at < c .before .before .args .end
-before c = omega (arith, c .if1 .left, c .before .before .pre .0)
+before c = omega (arith, c .if1 .left, c .before .before .pre .1)
 
 -- the name that was read, and where it ends
 abbrev name : tie.After-id → Unsigned
@@ -40,7 +40,7 @@ ended c =
 
 -- whatever stands behind it
 behind : (c : tie.After-id) → let a = c .before .before .before .before .before .args in Outcome Item
-behind c = let a = c .before .before .before .before .before .args in answerAt (a .rules) (a .map .now) (a .at) (a .end)
+behind c = let a = c .before .before .before .before .before .args in answerAt (a .limit) (a .rules) (a .map .now) (a .at) (a .end)
 
 end-words-requires : tie.Need-end-words-requires
 end-words-requires c κs = search needs
@@ -50,7 +50,7 @@ returns c =
     let q = c .before .before .before in
     let a = q .args in
     let e : a .at ≡ a .end = omega (arith, c .before .if1 .taken) in
-    let f : gives (finish (a .end)) ≡ answerAt (a .rules) (a .map .now) (a .at) (a .end) = sym (ap (λ (k : ℕ). answerAt (a .rules) (a .map .now) k (a .end)) e ∙ moves-end (a .rules) (a .map .now) (a .end) (q .pre .1)) in
+    let f : gives (finish (a .end)) ≡ answerAt (a .limit) (a .rules) (a .map .now) (a .at) (a .end) = sym (ap (λ (k : ℕ). answerAt (a .limit) (a .rules) (a .map .now) k (a .end)) e ∙ moves-end (a .limit) (a .rules) (a .map .now) (a .end) (q .pre .2) (q .pre .0)) in
     (c .end-words .ensures ∙ ap words f, ap leftOf f)
 
 read-name-requires : tie.Need-read-name-requires
@@ -62,7 +62,7 @@ enum-known-id c = search needs
 shared-slice-read-byte : tie.Need-shared-slice-read-byte
 shared-slice-read-byte c =
     let d = c .before .before in
-    omega (arith, ended d .high, d .before .before .before .before .before .pre .1)
+    omega (arith, ended d .high, d .before .before .before .before .before .pre .2)
 
 begins-value-requires : tie.Need-begins-value-requires
 begins-value-requires c κs = search needs
@@ -75,7 +75,7 @@ returns-2 c =
     let d = c .before .before .before .before .before in
     let q = d .before .before .before in
     let a = q .before .before .args in
-    let e = named-stepped (a .rules) (a .map .now) (a .at) (a .end) (before q) (name d) (named d) in
+    let e = named-stepped (a .limit) (a .rules) (a .map .now) (a .at) (a .end) (name d) (named d) in
     (c .long-step .ensures .0 ∙ ap words e, c .long-step .ensures .1 ∙ ap leftOf e)
 
 short-value-requires : tie.Need-short-value-requires
@@ -113,8 +113,8 @@ returns-3 c =
     let s = a .map .now in
     let next = d .id .given .0 .1 .0 in
     let u : Spans = bareSpans (getD s next 0) next (b .body .given .0 .0) (b .body .given .0 .1 .0) in
-    let e = sym (k .short-value .ensures) ∙ ap (shortValueRead (getD s next 0) next) (b .body .given .1) in
-    let o = ap (λ (x : Spans). gives (itemBy (a .rules) (a .at) (d .id .given .0 .0) x)) (v .bare-value .ensures) ∙ sym (short-stepped (a .rules) s (a .at) (a .end) (before q) (q .before .before .pre .1) (name d) (named d) u e) in
+    let e = sym (k .short-value .ensures (a .limit)) ∙ ap (shortValueRead (getD s next 0) next) (b .body .given .1) in
+    let o = ap (λ (x : Spans). gives (itemBy (a .rules) (a .at) (d .id .given .0 .0) x)) (v .bare-value .ensures) ∙ sym (short-stepped (a .limit) (a .rules) s (a .at) (a .end) (q .before .before .pre .0) (before q) (q .before .before .pre .2) (name d) (named d) u e) in
     (c .short-step .ensures .0 ∙ ap words o, c .short-step .ensures .1 ∙ ap leftOf o)
 
 returns-4 : tie.Need-returns-4
@@ -122,7 +122,7 @@ returns-4 c =
     let d = c .before .before .before .before .before .before .before .before in
     let q = d .before .before .before in
     let a = q .before .before .args in
-    let e = named-stepped (a .rules) (a .map .now) (a .at) (a .end) (before q) (name d) (named d) in
+    let e = named-stepped (a .limit) (a .rules) (a .map .now) (a .at) (a .end) (name d) (named d) in
     (c .long-step2 .ensures .0 ∙ ap words e, c .long-step2 .ensures .1 ∙ ap leftOf e)
 
 returns-5 : tie.Need-returns-5
@@ -130,7 +130,7 @@ returns-5 c =
     let f = c .before .before in
     let q = f .before .before .before in
     let a = q .before .before .args in
-    let e = unnamed-stepped (a .rules) (a .map .now) (a .at) (a .end) (before q) (q .before .before .pre .1) (sym (f .before .before .read-name .ensures) ∙ ap namedRead (f .refusal .given .1)) in
+    let e = unnamed-stepped (a .limit) (a .rules) (a .map .now) (a .at) (a .end) (q .before .before .pre .0) (before q) (q .before .before .pre .2) (sym (f .before .before .read-name .ensures) ∙ ap namedRead (f .refusal .given .1)) in
     (c .refused-words .ensures ∙ ap words (sym e), ap leftOf (sym e))
 
 pub step-words-spec : {M : Type 1} → statement M

@@ -12,7 +12,7 @@ item-from-requires c κs = search needs
 returns : tie.Need-returns
 returns c =
     let a = c .before .before .args in
-    c .item-from .ensures ∙ answer-unread (a .rules) (a .s .now) (a .at) (a .end) 0
+    c .item-from .ensures ∙ answer-unread (a .limit) (a .rules) (a .s .now) (a .at) (a .end) 0
 
 pub item-at-spec : {M : Type 1} → statement M
 item-at-spec = tie.close (tie.spec item-from-requires returns)

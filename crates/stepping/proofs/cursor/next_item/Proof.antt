@@ -16,7 +16,7 @@ returns : tie.Need-returns
 returns c =
     let q = c .before in
     let a = q .before .before .args in
-    rw (c .after-item .ensures) (step-is (a .rules) (a .s .now) (a .cursor) (itemRead (q .item-at .result)) (q .item-at .ensures))
+    rw (c .after-item .ensures) (step-is (a .limit) (a .rules) (a .s .now) (a .cursor) (itemRead (q .item-at .result)) (q .item-at .ensures))
 
 pub next-item-spec : {M : Type 1} → statement M
 next-item-spec = tie.close (tie.spec item-at-requires after-item-requires returns)

@@ -5,6 +5,7 @@ use mathlib.Core.Path.{_∙_, sym, ap}
 use Rattle.numbers.specs.Outcome.{Outcome, andThen}
 use Rattle.numbers.proofs.Outcomes.{then-by}
 use Rattle.framing.specs.Answers.{Frame}
+use Rattle.framing.proofs.Ranges.{in-range}
 use Rattle.stepping.specs.Names.{tileBy, tileBehind, tileFrom}
 use Rattle.stepping.specs.Read.{namedRead}
 use Rattle.stepping.proofs.cursor.read_tile.Statement.{statement}
@@ -48,8 +49,8 @@ returns-2 c =
     let a = d .before .before .before .before .args in
     rw (sym (d .before .is-marker .ensures) ∙ d .if1 .left)
     (c .tile-of .ensures
-    ∙ ap (λ (o : Outcome Frame). andThen o (tileBy (a .rules) (a .at) (n .named .given .0 .0))) (r .read-frame .ensures)
-    ∙ then-by namedRead (tileBehind (a .rules) (a .s .now) (a .at) (a .end)) (n .named .given .1) (q .name-from .ensures))
+    ∙ ap (λ (o : Outcome Frame). andThen o (tileBy (a .rules) (a .at) (n .named .given .0 .0))) (r .read-frame .ensures ∙ in-range (a .limit) _ (d .before .before .before .before .pre .0))
+    ∙ then-by namedRead (tileBehind (a .limit) (a .rules) (a .s .now) (a .at) (a .end)) (n .named .given .1) (q .name-from .ensures))
 
 returns-3 : tie.Need-returns-3
 unfolding tileFrom
@@ -58,7 +59,7 @@ returns-3 c =
     let d = q .before in
     let a = d .before .before .before .before .args in
     rw (sym (d .before .is-marker .ensures) ∙ d .if1 .left)
-    (then-by namedRead (tileBehind (a .rules) (a .s .now) (a .at) (a .end)) (c .before .refusal .given .1) (q .name-from .ensures))
+    (then-by namedRead (tileBehind (a .limit) (a .rules) (a .s .now) (a .at) (a .end)) (c .before .refusal .given .1) (q .name-from .ensures))
 
 pub read-tile-spec : {M : Type 1} → statement M
 read-tile-spec =

@@ -19,9 +19,9 @@ without : (s : List ℕ) (o : Outcome Spans) → andThen (andThen o (withValue s
 without s (gives v) = refl
 without s (refuses n p) = refl
 
-scalar-is : (s : List ℕ) (start end at : ℕ) → andThen (readWithValue s start end at) scalarIn ≡ readScalar s start end at
+scalar-is : (limit : ℕ) (s : List ℕ) (start end at : ℕ) → andThen (readWithValue limit s start end at) scalarIn ≡ readScalar limit s start end at
 unfolding readWithValue readScalar
-scalar-is s start end at = without s (valueIn s start end at)
+scalar-is limit s start end at = without s (valueIn limit s start end at)
 
 read-with-value-requires : tie.Need-read-with-value-requires
 read-with-value-requires c κs = search needs
@@ -36,13 +36,13 @@ returns : tie.Need-returns
 returns c =
     let q = c .before .before .before in
     let a = q .before .before .args in
-    then-by valueRead scalarIn (c .before .scalar .given .1) (q .read-with-value .ensures) ∙ scalar-is (a .s .now) (a .start) (a .end) (a .at)
+    then-by valueRead scalarIn (c .before .scalar .given .1) (q .read-with-value .ensures) ∙ scalar-is (a .limit) (a .s .now) (a .start) (a .end) (a .at)
 
 returns-2 : tie.Need-returns-2
 returns-2 c =
     let q = c .before .before .before in
     let a = q .before .before .args in
-    then-by valueRead scalarIn (c .before .refusal .given .1) (q .read-with-value .ensures) ∙ scalar-is (a .s .now) (a .start) (a .end) (a .at)
+    then-by valueRead scalarIn (c .before .refusal .given .1) (q .read-with-value .ensures) ∙ scalar-is (a .limit) (a .s .now) (a .start) (a .end) (a .at)
 
 pub read-spec : {M : Type 1} → statement M
 read-spec =

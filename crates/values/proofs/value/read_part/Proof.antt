@@ -13,13 +13,13 @@ use Rattle.values.proofs.value.read_part.Statement.{statement}
 use Rattle.values.proofs.value.read_part.Tie as tie
 
 -- the span of what was read
-is : (c : tie.After-span-of) → let a = c .before .before .before .args in c .span-of .result ≡ spanOf (readScalar (a .s .now) (a .start) (a .end) (a .at))
+is : (c : tie.After-span-of) → let a = c .before .before .before .args in c .span-of .result ≡ spanOf (readScalar (a .limit) (a .s .now) (a .start) (a .end) (a .at))
 is c = c .span-of .ensures ∙ ap spanOf (c .before .read .ensures)
 
 told : (c : tie.After-span-of) → let a = c .before .before .before .args in (c .span-of .result .start ≤ c .span-of .result .end) × (c .span-of .result .end ≤ length (a .s .now))
 told c =
     let a = c .before .before .before .args in
-    subst (λ (x : Span). (x .start ≤ x .end) × (x .end ≤ length (a .s .now))) (sym (is c)) (read-span (a .s .now) (a .start) (a .end) (a .at))
+    subst (λ (x : Span). (x .start ≤ x .end) × (x .end ≤ length (a .s .now))) (sym (is c)) (read-span (a .limit) (a .s .now) (a .start) (a .end) (a .at))
 
 read-requires : tie.Need-read-requires
 read-requires c κs = search needs

@@ -20,7 +20,7 @@ scalar-of-requires : tie.Need-scalar-of-requires
 scalar-of-requires c κs =
     let q = c .before .before .before in
     let a = q .before .before .args in
-    let i = each-of (value-in-each (a .s .now) (a .start) (a .end) (a .at)) (sym (q .value-in .ensures) ∙ ap framedRead (c .before .value .given .1)) in
+    let i = each-of (value-in-each (a .limit) (a .s .now) (a .start) (a .end) (a .at)) (sym (q .value-in .ensures) ∙ ap framedRead (c .before .value .given .1)) in
     (i .order, i .within)
 
 enum-known-refusal : tie.Need-enum-known-refusal

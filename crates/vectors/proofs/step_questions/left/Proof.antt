@@ -6,10 +6,10 @@ use Rattle.vectors.proofs.step_questions.left.Statement.{statement}
 use Rattle.vectors.proofs.step_questions.left.Tie as tie
 
 abbrev Inv-loop : tie.InvT-loop
-Inv-loop rules s at end count cursor₀ i₀ cursor i = Unit {0}
+Inv-loop rules s at end count limit cursor₀ i₀ cursor i = Unit {0}
 
 abbrev μ-loop : tie.MeasureT-loop
-μ-loop rules s at end count cursor₀ i₀ cursor i = count - i
+μ-loop rules s at end count limit cursor₀ i₀ cursor i = count - i
 
 loop-holds : tie.Need-loop-holds Inv-loop μ-loop
 loop-holds c = search needs

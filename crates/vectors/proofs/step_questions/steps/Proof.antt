@@ -6,10 +6,10 @@ use Rattle.vectors.proofs.step_questions.steps.Statement.{statement}
 use Rattle.vectors.proofs.step_questions.steps.Tie as tie
 
 abbrev Inv-loop : tie.InvT-loop
-Inv-loop rules s at end count line₀ cursor₀ i₀ line cursor i = Unit {0}
+Inv-loop rules s at end count limit line₀ cursor₀ i₀ line cursor i = Unit {0}
 
 abbrev μ-loop : tie.MeasureT-loop
-μ-loop rules s at end count line₀ cursor₀ i₀ line cursor i = count - i
+μ-loop rules s at end count limit line₀ cursor₀ i₀ line cursor i = count - i
 
 new-requires : tie.Need-new-requires Inv-loop μ-loop
 new-requires c κs = search needs

@@ -6,10 +6,10 @@ use Rattle.vectors.proofs.walk_questions.walk.Statement.{statement}
 use Rattle.vectors.proofs.walk_questions.walk.Tie as tie
 
 abbrev Inv-loop : tie.InvT-loop
-Inv-loop s at end line₀ state₀ most i₀ line state i = Unit {0}
+Inv-loop s at end limit depth line₀ state₀ most i₀ line state i = Unit {0}
 
 abbrev μ-loop : tie.MeasureT-loop
-μ-loop s at end line₀ state₀ most i₀ line state i = most - i
+μ-loop s at end limit depth line₀ state₀ most i₀ line state i = most - i
 
 new-requires : tie.Need-new-requires Inv-loop μ-loop
 new-requires c κs = search needs

@@ -10,6 +10,7 @@ use mathlib.Core.List.{List, [], _∷_}
 use lib.ListN.{length}
 use Rattle.numbers.specs.Outcome.{Outcome, gives, refuses, outsideOf}
 use Rattle.numbers.proofs.Outcomes.{inside-order, inside-end}
+use Rattle.framing.specs.Limits.{outOfRange}
 use Rattle.framing.specs.Read.{spansOf}
 use Rattle.stepping.specs.Items.{Item, finish}
 use Rattle.stepping.specs.Answers.{answerAt}
@@ -17,24 +18,25 @@ use Rattle.stepping.specs.Leaving.{isLast}
 use Rattle.stepping.specs.Names.{itemBy}
 use Rattle.stepping.specs.Read.{itemRead}
 use Rattle.stepping.specs.declared.cursor.Rules.{Rules}
-use Rattle.walking.specs.Walk.{deepest, parts, visit}
+use Rattle.walking.specs.Walk.{limitsOut, parts, visit}
 use Rattle.walking.specs.Calls.{endAt, stateAfterVisit, visitOf, calls, itemsIn}
 use Rattle.walking.specs.Private.State.{stateOf, MetAt}
 use Rattle.walking.specs.declared.walk.Met.{Met}
 use Rattle.walking.specs.declared.walk.Met.the-variants.{Value, Behind, Refused}
 use Rattle.walking.specs.declared.walk.Place.{Place}
 use Rattle.walking.specs.declared.walk.Walk.{Walk}
+use Rattle.walking.proofs.Depths.{in-limit}
 use Rattle.walking.proofs.Seeking.{stepHere, outside-here, nothing-here, too-deep, barred-last, item-here, refused-here, end-here, last-here, above-here, EndsBody, ends-body}
 use Rattle.walking.proofs.Counting.{none-called, last-called, one-called, same-called, named-item, after-named, after-depth}
 use Rattle.walking.proofs.walk.count_from.Statement.{statement}
 use Rattle.walking.proofs.walk.count_from.Tie as tie
 
 abbrev Inv-loop : tie.InvT-loop
-Inv-loop s ends₀ fields₀ most place₀ count₀ ends fields place count =
-    (count ≤ most) × (count + itemsIn (calls (most - count) s (stateOf ends fields place)) ≡ itemsIn (calls most s (stateOf ends₀ fields₀ place₀)))
+Inv-loop s ends₀ fields₀ most limit deepest place₀ count₀ ends fields place count =
+    (count ≤ most) × (count + itemsIn (calls limit deepest (most - count) s (stateOf ends fields place)) ≡ itemsIn (calls limit deepest most s (stateOf ends₀ fields₀ place₀)))
 
 abbrev μ-loop : tie.MeasureT-loop
-μ-loop s ends₀ fields₀ most place₀ count₀ ends fields place count = (most - count) * parts + place .depth
+μ-loop s ends₀ fields₀ most limit deepest place₀ count₀ ends fields place count = (most - count) * parts + place .depth
 
 -- at a turn of the loop: the slice, the state, how many items are counted, how many calls there are at most, and how many items there are to count
 abbrev slice : tie.In-loop Inv-loop μ-loop → List ℕ
@@ -49,10 +51,23 @@ counted t = t .before .loop .count
 abbrev calling : tie.In-loop Inv-loop μ-loop → ℕ
 calling t = t .before .before .before .args .most
 
+abbrev limitOf : tie.In-loop Inv-loop μ-loop → ℕ
+limitOf t = t .before .before .before .args .limit
+
+abbrev depthOf : tie.In-loop Inv-loop μ-loop → ℕ
+depthOf t = t .before .before .before .args .deepest
+
+-- the limits are in their ranges
+ranged : (t : tie.In-loop Inv-loop μ-loop) → limitsOut (limitOf t) (depthOf t) ≡ false
+ranged t = t .before .before .before .pre .0
+
+limited : (t : tie.In-loop Inv-loop μ-loop) → outOfRange (limitOf t) ≡ false
+limited t = in-limit (limitOf t) (depthOf t) (ranged t)
+
 abbrev total : tie.In-loop Inv-loop μ-loop → ℕ
 total t =
     let a = t .before .before .before .args in
-    itemsIn (calls (a .most) (a .s .now) (stateOf (a .ends .now) (a .fields .now) (a .from)))
+    itemsIn (calls (a .limit) (a .deepest) (a .most) (a .s .now) (stateOf (a .ends .now) (a .fields .now) (a .from)))
 
 -- from a place in a turn to one before it: the turn; where the state is known not to be too deep; where its part is known to lie in the slice; and where what stands
 -- there was met
@@ -69,14 +84,14 @@ abbrev meeting : tie.After-item-from Inv-loop μ-loop → tie.After-meet Inv-loo
 meeting i = i .before .before .before .before
 
 -- the count ends where the answer is the last
-stopped : (t : tie.In-loop Inv-loop μ-loop) → isLast (visitOf (slice t) (state t) .answer) ≡ true → counted t ≡ total t
-stopped t h = omega (arith, t .before .loop .inv .1, last-called (slice t) (state t) h (calling t - counted t))
+stopped : (t : tie.In-loop Inv-loop μ-loop) → isLast (visitOf (limitOf t) (depthOf t) (slice t) (state t) .answer) ≡ true → counted t ≡ total t
+stopped t h = omega (arith, t .before .loop .inv .1, last-called (limitOf t) (depthOf t) (slice t) (state t) h (calling t - counted t))
 
-refused : (e : tie.Else2 Inv-loop μ-loop) {number position : ℕ} → let t = turn e in stepHere (slice t) (state t) ≡ refuses number position → counted t ≡ total t
-refused e h = let t = turn e in stopped t (refused-here (slice t) (state t) (e .before .if1 .left) (e .if2 .left) h)
+refused : (e : tie.Else2 Inv-loop μ-loop) {number position : ℕ} → let t = turn e in stepHere (limitOf t) (slice t) (state t) ≡ refuses number position → counted t ≡ total t
+refused e h = let t = turn e in stopped t (refused-here (limitOf t) (depthOf t) (slice t) (state t) (ranged t) (e .before .if1 .left) (e .if2 .left) h)
 
-ended : (e : tie.Else2 Inv-loop μ-loop) {p : ℕ} → let t = turn e in state t .depth ≡ 0 → stepHere (slice t) (state t) ≡ gives (finish p) → counted t ≡ total t
-ended e z h = let t = turn e in stopped t (end-here (slice t) (state t) (e .before .if1 .left) (e .if2 .left) z h)
+ended : (e : tie.Else2 Inv-loop μ-loop) {p : ℕ} → let t = turn e in state t .depth ≡ 0 → stepHere (limitOf t) (slice t) (state t) ≡ gives (finish p) → counted t ≡ total t
+ended e z h = let t = turn e in stopped t (end-here (limitOf t) (depthOf t) (slice t) (state t) (ranged t) (e .before .if1 .left) (e .if2 .left) z h)
 
 -- the part lies in the slice, and the place in the part
 inside : (k : tie.Else3 Inv-loop μ-loop) → let t = turn (shallow k) in outsideOf (slice t) (state t .at) (endAt (state t) (state t .depth)) ≡ false
@@ -89,44 +104,44 @@ high : (k : tie.Else3 Inv-loop μ-loop) → let t = turn (shallow k) in endAt (s
 high k = let t = turn (shallow k) in inside-end (slice t) (state t .at) (endAt (state t) (state t .depth)) (inside k)
 
 -- nothing is left of the part
-passed : (c : tie.Then4 Inv-loop μ-loop) → let w = state (turn (shallow (c .before))) in stepHere (slice (turn (shallow (c .before)))) w ≡ gives (finish (endAt w (w .depth)))
-passed c = let t = turn (shallow (c .before)) in nothing-here (slice t) (state t) (c .if4 .taken) (high (c .before))
+passed : (c : tie.Then4 Inv-loop μ-loop) → let t = turn (shallow (c .before)) in let w = state t in stepHere (limitOf t) (slice t) w ≡ gives (finish (endAt w (w .depth)))
+passed c = let t = turn (shallow (c .before)) in nothing-here (limitOf t) (slice t) (state t) (limited t) (c .if4 .taken) (high (c .before))
 
 -- at a body's end the place above has as many items left
-rose : (k : tie.Else3 Inv-loop μ-loop) {q : ℕ} (p : Place) → let t = turn (shallow k) in (state t .depth ≡ 0 → ⊥) → stepHere (slice t) (state t) ≡ gives (finish q) → p ≡ record { depth = state t .depth - 1; at = endAt (state t) (state t .depth); deep = false } → counted t + itemsIn (calls (calling t - counted t) (slice t) (stateOf (state t .ends) (state t .fields) p)) ≡ total t
+rose : (k : tie.Else3 Inv-loop μ-loop) {q : ℕ} (p : Place) → let t = turn (shallow k) in (state t .depth ≡ 0 → ⊥) → stepHere (limitOf t) (slice t) (state t) ≡ gives (finish q) → p ≡ record { depth = state t .depth - 1; at = endAt (state t) (state t .depth); deep = false } → counted t + itemsIn (calls (limitOf t) (depthOf t) (calling t - counted t) (slice t) (stateOf (state t .ends) (state t .fields) p)) ≡ total t
 rose k p n e h =
     let t = turn (shallow k) in
     let w = state t in
-    let v = above-here (slice t) w (shallow k .before .if1 .left) (shallow k .if2 .left) (omega (arith, n)) (low k) (high k) e in
-    let m = same-called (slice t) w (w .depth - 1) (endAt w (w .depth)) false v (calling t - counted t) in
-    let u = ap (λ (x : Place). itemsIn (calls (calling t - counted t) (slice t) (stateOf (w .ends) (w .fields) x))) h in
+    let v = above-here (limitOf t) (depthOf t) (slice t) w (ranged t) (shallow k .before .if1 .left) (shallow k .if2 .left) (omega (arith, n)) (low k) (high k) e in
+    let m = same-called (limitOf t) (depthOf t) (slice t) w (w .depth - 1) (endAt w (w .depth)) false v (calling t - counted t) in
+    let u = ap (λ (x : Place). itemsIn (calls (limitOf t) (depthOf t) (calling t - counted t) (slice t) (stateOf (w .ends) (w .fields) x))) h in
     omega (arith, t .before .loop .inv .1, m, u)
 
 -- behind an item there is one less to count, and the place is not too deep
-went : (k : tie.Else3 Inv-loop μ-loop) (o : Outcome Item) (x : Walk) → let t = turn (shallow k) in isLast o ≡ false → stepHere (slice t) (state t) ≡ o → x ≡ stateAfterVisit (state t) (visit (state t .depth) o) → (counted t + 1 + itemsIn (calls (calling t - (counted t + 1)) (slice t) x) ≡ total t) × (x .depth ≤ deepest)
+went : (k : tie.Else3 Inv-loop μ-loop) (o : Outcome Item) (x : Walk) → let t = turn (shallow k) in isLast o ≡ false → stepHere (limitOf t) (slice t) (state t) ≡ o → x ≡ stateAfterVisit (depthOf t) (state t) (visit (state t .depth) o) → (counted t + 1 + itemsIn (calls (limitOf t) (depthOf t) (calling t - (counted t + 1)) (slice t) x) ≡ total t) × (x .depth ≤ depthOf t)
 went k o x i e h =
     let t = turn (shallow k) in
     let w = state t in
     let l = shallow k .before .if1 .left in
     let q : calling t - counted t ≡ suc (calling t - (counted t + 1)) = omega (arith, t .loop-test .taken) in
-    let m = one-called (slice t) w (item-here (slice t) w l (shallow k .if2 .left) o i e) i q in
-    let n = ap (λ (z : Walk). itemsIn (calls (calling t - (counted t + 1)) (slice t) z)) h in
+    let m = one-called (limitOf t) (depthOf t) (slice t) w (item-here (limitOf t) (depthOf t) (slice t) w (ranged t) l (shallow k .if2 .left) o i e) i q in
+    let n = ap (λ (z : Walk). itemsIn (calls (limitOf t) (depthOf t) (calling t - (counted t + 1)) (slice t) z)) h in
     let d = ap (λ (z : Walk). z .depth) h in
-    (omega (arith, t .before .loop .inv .1, m, n), omega (arith, d, after-depth w (w .depth) o i l))
+    (omega (arith, t .before .loop .inv .1, m, n), omega (arith, d, after-depth (depthOf t) w (w .depth) o i l))
 
 -- what is met is met by the rules of the part
-by-rules : (r : tie.After-rules-at Inv-loop μ-loop) {o : Outcome Item} → let t = turn (shallow (ruled r)) in answerAt (r .rules-at .result) (slice t) (state t .at) (endAt (state t) (state t .depth)) ≡ o → stepHere (slice t) (state t) ≡ o
+by-rules : (r : tie.After-rules-at Inv-loop μ-loop) {o : Outcome Item} → let t = turn (shallow (ruled r)) in answerAt (limitOf t) (r .rules-at .result) (slice t) (state t .at) (endAt (state t) (state t .depth)) ≡ o → stepHere (limitOf t) (slice t) (state t) ≡ o
 by-rules r e =
     let t = turn (shallow (ruled r)) in
-    sym (ap (λ (x : Rules). answerAt x (slice t) (state t .at) (endAt (state t) (state t .depth))) (r .rules-at .ensures)) ∙ e
+    sym (ap (λ (x : Rules). answerAt (limitOf t) x (slice t) (state t .at) (endAt (state t) (state t .depth))) (r .rules-at .ensures)) ∙ e
 
-told : (m : tie.After-meet Inv-loop μ-loop) (x : Met) → m .meet .result ≡ x → let t = turn (shallow (ruled (m .before))) in MetAt (m .before .rules-at .result) (slice t) (state t .at) (endAt (state t) (state t .depth)) x
+told : (m : tie.After-meet Inv-loop μ-loop) (x : Met) → m .meet .result ≡ x → let t = turn (shallow (ruled (m .before))) in MetAt (limitOf t) (m .before .rules-at .result) (slice t) (state t .at) (endAt (state t) (state t .depth)) x
 told m x h =
     let t = turn (shallow (ruled (m .before))) in
-    subst (MetAt (m .before .rules-at .result) (slice t) (state t .at) (endAt (state t) (state t .depth))) h (m .meet .ensures)
+    subst (MetAt (limitOf t) (m .before .rules-at .result) (slice t) (state t .at) (endAt (state t) (state t .depth))) h (m .meet .ensures (limitOf t) (limited t))
 
 -- the step behind a name
-stepped : (i : tie.After-item-from Inv-loop μ-loop) → let t = turn (shallow (ruled (meeting i .before))) in stepHere (slice t) (state t) ≡ itemRead (i .item-from .result)
+stepped : (i : tie.After-item-from Inv-loop μ-loop) → let t = turn (shallow (ruled (meeting i .before))) in stepHere (limitOf t) (slice t) (state t) ≡ itemRead (i .item-from .result)
 stepped i =
     let g = i .before .before .id .given in
     by-rules (meeting i .before) (sym (i .item-from .ensures ∙ told (meeting i) (Behind (g .0 .0) (g .0 .1 .0)) (g .1)))
@@ -142,19 +157,20 @@ bodied b =
     ends-body (state (turn (shallow (ruled (meeting i .before)))) .depth) (itemRead (i .item-from .result)) (sym (b .before .ends-body .ensures) ∙ b .if6 .taken)
 
 -- behind a value that is met, and behind the item of a step
-valued : (c : tie.After-pass-value Inv-loop μ-loop) → let t = turn (shallow (ruled (c .before .before .before .before .before .before .before))) in let x = stateOf (c .pass-value .last .0) (c .pass-value .last .1 .0) (c .pass-value .result) in (counted t + 1 + itemsIn (calls (calling t - (counted t + 1)) (slice t) x) ≡ total t) × (x .depth ≤ deepest)
+valued : (c : tie.After-pass-value Inv-loop μ-loop) → let t = turn (shallow (ruled (c .before .before .before .before .before .before .before))) in let x = stateOf (c .pass-value .last .0) (c .pass-value .last .1 .0) (c .pass-value .result) in (counted t + 1 + itemsIn (calls (limitOf t) (depthOf t) (calling t - (counted t + 1)) (slice t) x) ≡ total t) × (x .depth ≤ depthOf t)
 valued c =
     let v = c .before .before .before .before .value .given in
     let m = c .before .before .before .before .before .before in
     let r = m .before in
-    let w = state (turn (shallow (ruled r))) in
+    let t = turn (shallow (ruled r)) in
+    let w = state t in
     let g = told m (Value (v .0 .0)) (v .1) in
     let s = spansOf (v .0 .0) in
     let rules = r .rules-at .result in
     went (ruled r) (gives (itemBy rules (w .at) (g .0) s)) (stateOf (c .pass-value .last .0) (c .pass-value .last .1 .0) (c .pass-value .result))
-    (named-item rules (w .at) (g .0) s) (by-rules r (g .1)) (c .pass-value .ensures ∙ sym (after-named w (w .depth) rules (w .at) (g .0) s))
+    (named-item rules (w .at) (g .0) s) (by-rules r (g .1)) (c .pass-value .ensures ∙ sym (after-named (depthOf t) w (w .depth) rules (w .at) (g .0) s))
 
-handed : (c : tie.After-pass-item Inv-loop μ-loop) → let t = turn (shallow (ruled (meeting (behind c) .before))) in let x = stateOf (c .pass-item .last .0) (c .pass-item .last .1 .0) (c .pass-item .result) in (counted t + 1 + itemsIn (calls (calling t - (counted t + 1)) (slice t) x) ≡ total t) × (x .depth ≤ deepest)
+handed : (c : tie.After-pass-item Inv-loop μ-loop) → let t = turn (shallow (ruled (meeting (behind c) .before))) in let x = stateOf (c .pass-item .last .0) (c .pass-item .last .1 .0) (c .pass-item .result) in (counted t + 1 + itemsIn (calls (limitOf t) (depthOf t) (calling t - (counted t + 1)) (slice t) x) ≡ total t) × (x .depth ≤ depthOf t)
 handed c =
     let i = behind c in
     let f = c .before .before .before in
@@ -165,16 +181,18 @@ loop-holds : tie.Need-loop-holds Inv-loop μ-loop
 loop-holds c =
     let a = c .before .args in
     let e : a .most - 0 ≡ a .most = omega arith in
-    let f = ap (λ (k : ℕ). itemsIn (calls k (a .s .now) (stateOf (a .ends .now) (a .fields .now) (a .from)))) e in
+    let f = ap (λ (k : ℕ). itemsIn (calls (a .limit) (a .deepest) k (a .s .now) (stateOf (a .ends .now) (a .fields .now) (a .from)))) e in
     (omega arith, omega (arith, f))
 
 returns : tie.Need-returns Inv-loop μ-loop
-returns c = stopped (c .before) (too-deep (slice (c .before)) (state (c .before)) (c .if1 .taken))
+returns c =
+    let t = c .before in
+    stopped t (too-deep (limitOf t) (depthOf t) (slice t) (state t) (c .if1 .taken))
 
 returns-2 : tie.Need-returns-2 Inv-loop μ-loop
 returns-2 c =
     let t = c .before .before in
-    stopped t (barred-last (slice t) (state t) (c .if2 .taken))
+    stopped t (barred-last (limitOf t) (depthOf t) (slice t) (state t) (c .if2 .taken))
 
 mul-end : tie.Need-mul-end Inv-loop μ-loop
 mul-end c = search needs
@@ -189,7 +207,7 @@ returns-3 : tie.Need-returns-3 Inv-loop μ-loop
 returns-3 c =
     let e = c .before .before .before in
     let t = turn e in
-    refused e (outside-here (slice t) (state t) (sym (c .before .outside .ensures) ∙ c .if3 .taken))
+    refused e (outside-here (limitOf t) (slice t) (state t) (limited t) (sym (c .before .outside .ensures) ∙ c .if3 .taken))
 
 returns-4 : tie.Need-returns-4 Inv-loop μ-loop
 returns-4 c =
@@ -266,7 +284,7 @@ returns-5 c =
     let i = q .before .before in
     let e = shallow (ruled (meeting i .before)) in
     let t = turn e in
-    stopped t (last-here (slice t) (state t) (e .before .if1 .left) (e .if2 .left) (itemRead (i .item-from .result)) (sym (q .before .ends-body .ensures) ∙ q .if6 .left) (sym (c .before .is-last .ensures) ∙ c .if7 .taken) (stepped i))
+    stopped t (last-here (limitOf t) (depthOf t) (slice t) (state t) (ranged t) (e .before .if1 .left) (e .if2 .left) (itemRead (i .item-from .result)) (sym (q .before .ends-body .ensures) ∙ q .if6 .left) (sym (c .before .is-last .ensures) ∙ c .if7 .taken) (stepped i))
 
 pass-item-requires : tie.Need-pass-item-requires Inv-loop μ-loop
 pass-item-requires c κs = search needs
@@ -299,7 +317,7 @@ returns-7 c =
     let l = c .before .loop in
     let a = c .before .before .before .args in
     let z : a .most - l .count ≡ 0 = omega (arith, c .loop-test .left, l .inv .0) in
-    omega (arith, l .inv .1, none-called (a .s .now) (stateOf (l .ends) (l .fields) (l .place)) z)
+    omega (arith, l .inv .1, none-called (a .limit) (a .deepest) (a .s .now) (stateOf (l .ends) (l .fields) (l .place)) z)
 
 pub count-from-spec : {M : Type 1} → statement M
 count-from-spec =

@@ -10,7 +10,7 @@ use types.Run.{OneOf}
 use Rattle.stepping.specs.Answers.{answerAt}
 use Rattle.stepping.specs.Read.{itemRead}
 use Rattle.stepping.specs.declared.cursor.Rules.{Rules}
-use Rattle.walking.specs.Walk.{deepest}
+use Rattle.walking.specs.Walk.{mostDepth}
 use Rattle.walking.specs.Calls.{seek, endAt, rulesAt}
 use Rattle.walking.specs.Private.State.{stateOf}
 use Rattle.walking.specs.declared.walk.Place.{Place}
@@ -19,11 +19,11 @@ use Rattle.walking.proofs.walk.find.Statement.{statement}
 use Rattle.walking.proofs.walk.find.Tie as tie
 
 abbrev Inv-loop : tie.InvT-loop
-Inv-loop s ends fields depth₀ at₀ depth at =
-    (depth ≤ deepest) × ((p : Place) → seek s (stateOf ends fields p) depth at ≡ seek s (stateOf ends fields p) depth₀ at₀)
+Inv-loop s ends fields limit depth₀ at₀ depth at =
+    (depth ≤ mostDepth) × ((p : Place) → seek limit s (stateOf ends fields p) depth at ≡ seek limit s (stateOf ends fields p) depth₀ at₀)
 
 abbrev μ-loop : tie.MeasureT-loop
-μ-loop s ends fields depth₀ at₀ depth at = depth
+μ-loop s ends fields limit depth₀ at₀ depth at = depth
 
 -- one of the variants behind the first
 past-first : (x : ℕ) → OneOf (1 ∷ 2 ∷ 3 ∷ 4 ∷ []) x → 1 ≤ x
@@ -37,11 +37,11 @@ abbrev from : tie.After-item-at Inv-loop μ-loop → tie.At-loop Inv-loop μ-loo
 from c = c .before .before .before .before
 
 -- the step's answer at the loop's place
-answered : (c : tie.After-item-at Inv-loop μ-loop) → let q = from c in let a = q .before .before .args in (p : Place) → itemRead (c .item-at .result) ≡ answerAt (rulesAt (stateOf (a .ends .now) (a .fields .now) p) (q .loop .depth)) (a .s .now) (q .loop .at) (endAt (stateOf (a .ends .now) (a .fields .now) p) (q .loop .depth))
+answered : (c : tie.After-item-at Inv-loop μ-loop) → let q = from c in let a = q .before .before .args in (p : Place) → itemRead (c .item-at .result) ≡ answerAt (a .limit) (rulesAt (stateOf (a .ends .now) (a .fields .now) p) (q .loop .depth)) (a .s .now) (q .loop .at) (endAt (stateOf (a .ends .now) (a .fields .now) p) (q .loop .depth))
 answered c p =
     let q = from c in
     let a = q .before .before .args in
-    c .item-at .ensures ∙ ap (λ (r : Rules). answerAt r (a .s .now) (q .loop .at) (endAt (stateOf (a .ends .now) (a .fields .now) p) (q .loop .depth))) (c .before .before .rules-at .ensures)
+    c .item-at .ensures ∙ ap (λ (r : Rules). answerAt (a .limit) r (a .s .now) (q .loop .at) (endAt (stateOf (a .ends .now) (a .fields .now) p) (q .loop .depth))) (c .before .before .rules-at .ensures)
 
 loop-holds : tie.Need-loop-holds Inv-loop μ-loop
 loop-holds c = (c .before .pre, λ p. refl)
@@ -65,7 +65,7 @@ returns : tie.Need-returns Inv-loop μ-loop
 returns c =
     let q = from (c .before) in
     let a = q .before .before .args in
-    in-stream (a .s .now) (stateOf (a .ends .now) (a .fields .now) (a .place)) (q .loop .depth) (q .loop .at) _ (c .if1 .taken) (answered (c .before) (a .place)) ∙ q .loop .inv .1 (a .place)
+    in-stream (a .limit) (a .s .now) (stateOf (a .ends .now) (a .fields .now) (a .place)) (q .loop .depth) (q .loop .at) _ (c .if1 .taken) (answered (c .before) (a .place)) ∙ q .loop .inv .1 (a .place)
 
 enum-known-item : tie.Need-enum-known-item Inv-loop μ-loop
 enum-known-item c = search needs
@@ -81,14 +81,14 @@ loop-again c =
     let e = c .before .before .before .before in
     let q = from e in
     let a = q .before .before .args in
-    (omega (arith, q .loop .inv .0), λ p. above (a .s .now) (stateOf (a .ends .now) (a .fields .now) p) (q .loop .depth) (q .loop .at) _ (omega (arith, c .before .before .before .if1 .left)) (sym (ap itemRead (c .before .item .given .1)) ∙ answered e p) ∙ q .loop .inv .1 p)
+    (omega (arith, q .loop .inv .0), λ p. above (a .limit) (a .s .now) (stateOf (a .ends .now) (a .fields .now) p) (q .loop .depth) (q .loop .at) _ (omega (arith, c .before .before .before .if1 .left)) (sym (ap itemRead (c .before .item .given .1)) ∙ answered e p) ∙ q .loop .inv .1 p)
 
 returns-2 : tie.Need-returns-2 Inv-loop μ-loop
 returns-2 c =
     let e = c .before .before in
     let q = from e in
     let a = q .before .before .args in
-    here (a .s .now) (stateOf (a .ends .now) (a .fields .now) (a .place)) (q .loop .depth) (q .loop .at) _ (not-end (e .item-at .result) (past-first _ (c .match .keys2))) (answered e (a .place)) ∙ q .loop .inv .1 (a .place)
+    here (a .limit) (a .s .now) (stateOf (a .ends .now) (a .fields .now) (a .place)) (q .loop .depth) (q .loop .at) _ (not-end (e .item-at .result) (past-first _ (c .match .keys2))) (answered e (a .place)) ∙ q .loop .inv .1 (a .place)
 
 pub find-spec : {M : Type 1} → statement M
 find-spec =

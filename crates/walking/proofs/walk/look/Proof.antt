@@ -14,7 +14,7 @@ refused-requires c κs = search needs
 
 returns : tie.Need-returns
 unfolding visitOf barred
-returns c = rw (lt-ltb _ _ (c .before .if1 .taken)) (c .refused .ensures)
+returns c = rw (c .before .before .before .pre .0, lt-ltb _ _ (c .before .if1 .taken)) (c .refused .ensures)
 
 mul-outside : tie.Need-mul-outside
 mul-outside c = search needs
@@ -32,7 +32,7 @@ returns-2 : tie.Need-returns-2
 unfolding visitOf barred
 returns-2 c =
     let d = c .before .before .before .before in
-    rw (le-ltb _ _ (d .before .if1 .left), d .if2 .taken, sym (c .before .before .outside .ensures) ∙ c .before .if3 .taken) (c .refused2 .ensures)
+    rw (d .before .before .before .pre .0, le-ltb _ _ (d .before .if1 .left), d .if2 .taken, sym (c .before .before .outside .ensures) ∙ c .before .if3 .taken) (c .refused2 .ensures)
 
 refused-requires-3 : tie.Need-refused-requires-3
 refused-requires-3 c κs = search needs
@@ -41,7 +41,7 @@ returns-3 : tie.Need-returns-3
 unfolding visitOf barred
 returns-3 c =
     let d = c .before .before .before .before in
-    rw (le-ltb _ _ (d .before .if1 .left), d .if2 .taken, sym (c .before .before .outside .ensures) ∙ c .before .if3 .left) (c .refused3 .ensures)
+    rw (d .before .before .before .pre .0, le-ltb _ _ (d .before .if1 .left), d .if2 .taken, sym (c .before .before .outside .ensures) ∙ c .before .if3 .left) (c .refused3 .ensures)
 
 find-requires : tie.Need-find-requires
 find-requires c κs = search needs
@@ -49,7 +49,7 @@ find-requires c κs = search needs
 returns-4 : tie.Need-returns-4
 returns-4 c =
     let a = c .before .before .before .before .args in
-    c .find .ensures ∙ sym (visit-seek (a .s .now) (stateOf (a .ends .now) (a .fields .now) (a .place)) (c .before .before .if1 .left) (c .before .if2 .left))
+    c .find .ensures ∙ sym (visit-seek (a .limit) (a .deepest) (a .s .now) (stateOf (a .ends .now) (a .fields .now) (a .place)) (c .before .before .before .before .pre .0) (c .before .before .if1 .left) (c .before .if2 .left))
 
 pub look-spec : {M : Type 1} → statement M
 look-spec =

@@ -54,7 +54,7 @@ enum-told-2 : tie.Need-enum-told-2
 enum-told-2 c = search needs
 
 returns : tie.Need-returns
-returns c =
+returns c limit g =
     let b = c .before .before .before in
     let k = b .before .before .before .before in
     let q = k .before .before .before .before in
@@ -62,21 +62,21 @@ returns c =
     let u = name k in
     let byte = getD (a .s .now) (u .next) 0 in
     let v : Spans = bareSpans byte (u .next) (b .body .given .0 .0) (b .body .given .0 .1 .0) in
-    let short = b .before .before .short-at .ensures v (ap (shortValueRead byte (u .next)) (b .body .given .1)) in
-    (u .value, short-stepped (a .rules) (a .s .now) (a .at) (a .end) (q .pre .0) (q .pre .1) u (named k) v short ∙ ap (λ (x : Spans). gives (itemBy (a .rules) (a .at) (u .value) x)) (sym (c .bare-value .ensures)))
+    let short = b .before .before .short-at .ensures limit v (ap (shortValueRead byte (u .next)) (b .body .given .1)) in
+    (u .value, short-stepped limit (a .rules) (a .s .now) (a .at) (a .end) g (q .pre .0) (q .pre .1) u (named k) v short ∙ ap (λ (x : Spans). gives (itemBy (a .rules) (a .at) (u .value) x)) (sym (c .bare-value .ensures)))
 
 returns-2 : tie.Need-returns-2
-returns-2 c =
+returns-2 c limit g =
     let k = c .before .before .before .before in
     let q = k .before .before .before .before in
-    named-stepped (q .args .rules) (q .args .s .now) (q .args .at) (q .args .end) (q .pre .0) (name k) (named k)
+    named-stepped limit (q .args .rules) (q .args .s .now) (q .args .at) (q .args .end) (name k) (named k)
 
 returns-3 : tie.Need-returns-3
-returns-3 c =
+returns-3 c limit g =
     let r = c .before .before in
     let q = r .before .before in
     let e = sym (r .read-name .ensures) ∙ ap namedRead (c .enum-told2 .given .1) in
-    (_, _, unnamed-stepped (q .args .rules) (q .args .s .now) (q .args .at) (q .args .end) (q .pre .0) (q .pre .1) e)
+    (_, _, unnamed-stepped limit (q .args .rules) (q .args .s .now) (q .args .at) (q .args .end) g (q .pre .0) (q .pre .1) e)
 
 pub meet-spec : {M : Type 1} → statement M
 meet-spec =

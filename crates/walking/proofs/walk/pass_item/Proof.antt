@@ -33,27 +33,27 @@ enum-told c = search needs
 returns : tie.Need-returns
 returns c =
     let a = c .before .before .before .args in
-    ap (λ (i : ItemEnum). stateAfterAnswer (stateOf (a .ends .now) (a .fields .now) (a .place)) (a .depth) (itemRead i)) (sym (c .before .item .given .1))
+    ap (λ (i : ItemEnum). stateAfterAnswer (a .deepest) (stateOf (a .ends .now) (a .fields .now) (a .place)) (a .depth) (itemRead i)) (sym (c .before .item .given .1))
 
 returns-2 : tie.Need-returns-2
 returns-2 c =
     let a = c .before .before .before .args in
-    ap (λ (i : ItemEnum). stateAfterAnswer (stateOf (a .ends .now) (a .fields .now) (a .place)) (a .depth) (itemRead i)) (sym (c .before .item2 .given .1))
+    ap (λ (i : ItemEnum). stateAfterAnswer (a .deepest) (stateOf (a .ends .now) (a .fields .now) (a .place)) (a .depth) (itemRead i)) (sym (c .before .item2 .given .1))
 
 returns-3 : tie.Need-returns-3
 returns-3 c =
     let a = c .before .before .before .before .before .before .args in
-    c .pass-value .ensures ∙ ap (λ (i : ItemEnum). stateAfterAnswer (stateOf (a .ends .now) (a .fields .now) (a .place)) (a .depth) (itemRead i)) (sym (c .before .before .before .before .item3 .given .1))
+    c .pass-value .ensures ∙ ap (λ (i : ItemEnum). stateAfterAnswer (a .deepest) (stateOf (a .ends .now) (a .fields .now) (a .place)) (a .depth) (itemRead i)) (sym (c .before .before .before .before .item3 .given .1))
 
 returns-4 : tie.Need-returns-4
 returns-4 c =
     let a = c .before .before .before .before .before .before .args in
-    c .pass-value2 .ensures ∙ ap (λ (i : ItemEnum). stateAfterAnswer (stateOf (a .ends .now) (a .fields .now) (a .place)) (a .depth) (itemRead i)) (sym (c .before .before .before .before .item4 .given .1))
+    c .pass-value2 .ensures ∙ ap (λ (i : ItemEnum). stateAfterAnswer (a .deepest) (stateOf (a .ends .now) (a .fields .now) (a .place)) (a .depth) (itemRead i)) (sym (c .before .before .before .before .item4 .given .1))
 
 returns-5 : tie.Need-returns-5
 returns-5 c =
     let a = c .before .before .args in
-    ap (λ (i : ItemEnum). stateAfterAnswer (stateOf (a .ends .now) (a .fields .now) (a .place)) (a .depth) (itemRead i)) (sym (c .enum-told .given .1))
+    ap (λ (i : ItemEnum). stateAfterAnswer (a .deepest) (stateOf (a .ends .now) (a .fields .now) (a .place)) (a .depth) (itemRead i)) (sym (c .enum-told .given .1))
 
 pub pass-item-spec : {M : Type 1} → statement M
 pass-item-spec =

@@ -14,13 +14,13 @@ begins-value-requires : tie.Need-begins-value-requires
 begins-value-requires c κs = search needs
 
 returns : tie.Need-returns
-returns c = λ v e. absurd (let z : _≡_ {A = ℕ} 0 1 = cc in omega arith)
+returns c = λ limit v e. absurd (let z : _≡_ {A = ℕ} 0 1 = cc in omega arith)
 
 short-value-requires : tie.Need-short-value-requires
 short-value-requires c κs = search needs
 
 returns-2 : tie.Need-returns-2
-returns-2 c = λ v e. sym (c .short-value .ensures) ∙ e
+returns-2 c = λ limit v e. sym (c .short-value .ensures limit) ∙ e
 
 pub short-at-spec : {M : Type 1} → statement M
 short-at-spec =
