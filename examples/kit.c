@@ -135,6 +135,25 @@ static void check_number(void)
     check("cut Int", ion_map_number(map, LENGTH, 17, 19, 18, ION_MAP_FORM_INT, SIZE_MAX, record, sizeof record), 9);
 }
 
+static void check_decimal(void)
+{
+    static const words decimal = {ION_MAP_KIND_DECIMAL, 0, 17, 99, 1, 19, 19, 1, 0};
+    static const words zero = {ION_MAP_KIND_DECIMAL, 0, 19, 0, 0, 19, 19, 0, 0};
+    static const uint8_t body[] = {0x40, 0x83, 0x80, 0x81, 0x01}; /* an exponent of two bytes, a coefficient of two, one more */
+    static const words two = {ION_MAP_KIND_DECIMAL, 1, 0, 0, 1, 3, 4, 3, 0};
+    static const words cut = {ION_MAP_KIND_REFUSED, ION_MAP_REFUSAL_VAR_INT_CUT, 5, 0, 0, 0, 0, 0, 0};
+
+    check("decimal", ion_map_decimal(map, LENGTH, 17, 19, record, sizeof record), 0);
+    check_words("decimal", record, decimal);
+    check("empty decimal", ion_map_decimal(map, LENGTH, 19, 19, record, sizeof record), 0);
+    check_words("empty decimal", record, zero);
+    check("decimal of two and two bytes", ion_map_decimal(body, sizeof body, 0, 4, record, sizeof record), 0);
+    check_words("decimal of two and two bytes", record, two);
+    check("cut decimal", ion_map_decimal(body, sizeof body, 4, 5, record, sizeof record), 4);
+    check_words("cut decimal", record, cut);
+    check("decimal outside", ion_map_decimal(map, LENGTH, 17, SIZE_MAX, record, sizeof record), 50);
+}
+
 static void check_many(void)
 {
     static const words value = {ION_MAP_KIND_VALUE, 0xD5, 4, 6, 7, 8, 13, 0, 5};
@@ -198,6 +217,7 @@ int main(void)
     check_annotation_and_step_in();
     check_scalar();
     check_number();
+    check_decimal();
     check_many();
     check_limits();
     printf("%d checks, %d differ\n", checks, differing);

@@ -218,14 +218,15 @@ uint64_t ion_map_step(const uint8_t *map, size_t map_len, size_t start, size_t e
 }
 #endif
 
-/* ==================== Part 2: annotations, stepping in, scalars, numbers, many steps ==================== */
+/* =============== Part 2: annotations, stepping in, scalars, numbers, decimals, many steps =============== */
 
 /* Kinds of the records of part 2, beside ION_MAP_KIND_END and ION_MAP_KIND_REFUSED. */
 enum {
     ION_MAP_KIND_ANNOTATION = 5,
     ION_MAP_KIND_BODY = 6,
     ION_MAP_KIND_SCALAR = 7,
-    ION_MAP_KIND_NUMBER = 8
+    ION_MAP_KIND_NUMBER = 8,
+    ION_MAP_KIND_DECIMAL = 10
 };
 
 /* Words of an annotation; words 1, 4, 5 and 7 are 0. */
@@ -260,7 +261,7 @@ enum {
     ION_MAP_WHAT_INT = 2,       /* number: 1 where negative; part: the magnitude, most significant byte first,
                                    without leading zero bytes, so that zero has none */
     ION_MAP_WHAT_FLOAT = 3,     /* number: the 64 bits of a double, also where the map has 32 or none */
-    ION_MAP_WHAT_DECIMAL = 4,   /* part: its body */
+    ION_MAP_WHAT_DECIMAL = 4,   /* part: its body, which ion_map_decimal splits */
     ION_MAP_WHAT_TIMESTAMP = 5, /* part: its body */
     ION_MAP_WHAT_SYMBOL = 6,    /* number: its ID */
     ION_MAP_WHAT_STRING = 7,    /* part: its text, which is UTF-8 and has no final zero */
@@ -285,6 +286,18 @@ enum {
     ION_MAP_NUMBER_REST = 5,     /* the first of an Int's further bytes, which belong to its magnitude and go
                                     to its end; of the other forms the end */
     ION_MAP_NUMBER_END = 6       /* where it ends */
+};
+
+/* Words of a decimal: its coefficient times ten to its exponent. */
+enum {
+    ION_MAP_DECIMAL_NEGATIVE = 1,          /* 1 where the coefficient's sign is negative, also of a negative zero */
+    ION_MAP_DECIMAL_START = 2,             /* the body's first byte */
+    ION_MAP_DECIMAL_FIRST = 3,             /* the low seven bits of the coefficient's first byte */
+    ION_MAP_DECIMAL_EXPONENT_NEGATIVE = 4, /* 1 where the exponent is negative; an exponent of negative zero isn't */
+    ION_MAP_DECIMAL_REST = 5,              /* the coefficient's further bytes, which belong to its magnitude; where the
+                                              coefficient has no bytes they stand at the body's end */
+    ION_MAP_DECIMAL_END = 6,
+    ION_MAP_DECIMAL_EXPONENT = 7           /* the exponent's magnitude, below 2^62 */
 };
 
 /* Refusals that only the functions of part 2 give, beside those of part 1. */
@@ -337,6 +350,11 @@ uint64_t ion_map_walked(const uint8_t *map, size_t map_len, uint64_t most, size_
    REFUSED. */
 uint64_t ion_map_number(const uint8_t *map, size_t map_len, size_t start, size_t end, size_t position,
                         uint64_t form, size_t length, uint8_t *out, size_t out_len);
+
+/* Splits a decimal into exponent and coefficient. The part start..end is its body, words START and END of its
+   scalar's record; an empty one is zero with exponent 0. Record kinds: DECIMAL, REFUSED (4 at `end`, 20 at `start`, 50). */
+uint64_t ion_map_decimal(const uint8_t *map, size_t map_len, size_t start, size_t end, uint8_t *out,
+                         size_t out_len);
 
 #ifdef __cplusplus
 }

@@ -7,7 +7,8 @@
 
 Behind the buffer's length a question may have the limits of the change request A.9: the most annotation bytes, and of `walked` also the depth. Without them they
 are 255 and 32. What a value, a pad or a wrapper is and where it is refused comes from ../mapspans_cases/derive.py, which follows the scope paper and the change requests after
-it. The records follow the paper's "Record", "Scalars" and "VarUInt, VarInt, Int" and the change request A.6, the kinds 5 to 8 the tables of include/ion_map.h.
+it. The records follow the paper's "Record", "Scalars" and "VarUInt, VarInt, Int" and the change requests A.6 and A.1, the kinds 5 to 8 and 10 the tables of
+include/ion_map.h.
 Nothing is shared with the reader that is compared.
 """
 
@@ -28,7 +29,7 @@ RECORD_WORDS = 9
 RECORD_SIZE = RECORD_WORDS * WORD_SIZE
 STEPS = [steps.step_stream, steps.step_sequence, steps.step_struct]
 FIELDS = 2
-END, MARKER, VALUE, FIELD, _, ANNOTATION, BODY, SCALAR, NUMBER, REFUSED = range(10)
+END, MARKER, VALUE, FIELD, _, ANNOTATION, BODY, SCALAR, NUMBER, REFUSED, SPLIT = range(11)
 NULL, BOOL, INT, FLOAT, DECIMAL, TIMESTAMP, SYMBOL, STRING, CLOB, BLOB, CONTAINER = range(11)
 
 # Refusals that each function can answer with; data/ is to have each of them.
@@ -41,11 +42,12 @@ REFUSALS = {
     "step_in": FRAMING | {50, 51, 52, 68},
     "scalar": FRAMING | {33, 34, 35, 36, 50, 51, 68},
     "number": {3, 4, 9, 20, 50, 51},
+    "decimal": {4, 20, 50, 51},
     "walked": set(),
 }
 
 # How many numbers a question has before its limits.
-NUMBERS = {"step": 5, "steps": 5, "annotation": 4, "step_in": 4, "scalar": 4, "number": 6, "walked": 1}
+NUMBERS = {"step": 5, "steps": 5, "annotation": 4, "step_in": 4, "scalar": 4, "number": 6, "decimal": 3, "walked": 1}
 
 # ===== The records' words =====
 
@@ -177,13 +179,23 @@ def number(data, start, end, position, form, length, limits):
     return record(NUMBER, first // 128, position, first % 128, 0, position + min(length, 1), position + length)
 
 
+def decimal(data, start, end, limits):
+    """A.1: a VarInt, negative zero as 0, and an Int of the bytes that are left."""
+    inside(data, start, end, start)
+    if start == end:
+        return record(SPLIT, 0, start, 0, 0, end, end)
+    negative, exponent, after = var_int(data, start, end)
+    first = data[after] if after < end else 0
+    return record(SPLIT, first // 128, start, first % 128, int(negative and exponent > 0), min(after + 1, end), end, exponent)
+
+
 def walked(data, most, limits):
     return min(most, len(steps.walk(data, 0, len(data), limits)) - 1)
 
 
 # ===== What a call returns and leaves =====
 
-SINGLE = {"step": step, "annotation": annotation, "step_in": step_in, "scalar": scalar, "number": number}
+SINGLE = {"step": step, "annotation": annotation, "step_in": step_in, "scalar": scalar, "number": number, "decimal": decimal}
 
 
 def called(function, data, *arguments):
@@ -304,6 +316,13 @@ def told_number(data, form, words):
     return f"{sign(negative)} {hexadecimal((bytes([value]) + data[rest:end]).lstrip(bytes(1)))} {end}"
 
 
+def told_decimal(data, words):
+    kind, negative, _, first, exponent_negative, rest, end, exponent, _ = words
+    if kind == REFUSED:
+        return told("decimal", data, words)
+    return f"{sign(exponent_negative)} {exponent} {sign(negative)} {hexadecimal((bytes([first]) + data[rest:end]).lstrip(bytes(1)))}"
+
+
 def asked(question):
     """The oracle's question and what it is to answer; nothing where 50 or 51 is answered, or with other limits, which ion-rust hasn't got."""
     name, data, limits, numbers = parsed(question)
@@ -315,6 +334,8 @@ def asked(question):
     records = records_of(name, data, limits, *numbers)
     if returned(records) in (50, 51):
         return None
+    if name == "decimal":
+        return f"decimal {text} {numbers[0]} {numbers[1]}", told_decimal(data, records[0])
     start, end, position, *more = numbers
     if name in ("step", "steps"):
         rules = ["stream", "sequence", "struct"][more[0]]

@@ -18,6 +18,7 @@ use crate::lazy::raw_value_ref::{RawSymbolRef, RawValueRef};
 use crate::lazy::streaming_raw_reader::RawReaderState;
 use crate::refusals;
 use crate::requests::Request;
+use crate::types::decimal::Sign;
 use crate::{Int, IonError, IonType};
 
 /// What a title's maps may have, by the change request A.9.
@@ -126,6 +127,17 @@ pub struct Number {
     pub negative: bool,
     pub magnitude: u128,
     pub next: usize,
+}
+
+/// A decimal: its exponent, and its coefficient, whose zero may be negative.
+#[derive(Clone, Copy, Debug, PartialEq)]
+pub struct Decimal {
+    pub exponent: i64,
+    pub negative: bool,
+    /// Nothing where it is too long for the stand-in integer.
+    pub magnitude: Option<u128>,
+    /// Where the coefficient begins. The Rust doesn't show it: the exponent is read a second time.
+    pub coefficient: usize,
 }
 
 #[derive(Clone, Copy, Debug, PartialEq)]
@@ -293,6 +305,60 @@ pub fn int(part: BinaryBuffer<'_>, length: usize) -> Result<Option<Number>, Refu
 
 fn magnitude(value: &Int) -> u128 {
     value.unsigned_abs().as_u128().expect("at most 15 bytes")
+}
+
+// ===== Decimals =====
+
+/// A decimal's descriptor for a body of this length: an empty one has no length field.
+fn decimal_head(length: usize) -> Vec<u8> {
+    if length < 14 {
+        return vec![0x50 | length as u8];
+    }
+    let mut head = vec![0x80 | (length % 128) as u8];
+    let mut left = length / 128;
+    while left > 0 {
+        head.push((left % 128) as u8);
+        left /= 128;
+    }
+    head.push(0x5E);
+    head.reverse();
+    head
+}
+
+/// `read` of the decimal whose body is the part, put behind a descriptor. The Rust counts positions
+/// from the body's start.
+pub fn decimal(asked: &Asked<'_>) -> Result<Decimal, Refusal> {
+    let body = asked.bytes(asked.at, asked.end);
+    let mut value = decimal_head(body.len());
+    value.extend_from_slice(body);
+    let part = BinaryBuffer::new_with_offset(asked.context, &value, 0);
+    let read = match RawBinarySequenceIterator_1_0::new(part).next() {
+        Some(Ok(value)) => value.read(),
+        other => unreachable!("the bytes are a decimal: {other:?}"),
+    };
+    match read {
+        Ok(RawValueRef::Decimal(decimal)) => {
+            // An empty body has no exponent.
+            let coefficient = var_int(asked.part()).map_or(asked.end, |exponent| exponent.next);
+            let magnitude = decimal.coefficient().magnitude();
+            let is_short = asked.end - coefficient <= INT_LIMIT;
+            Ok(Decimal {
+                exponent: decimal.exponent(),
+                negative: decimal.coefficient().sign() == Sign::Negative,
+                magnitude: is_short.then(|| magnitude.as_u128().expect("at most 15 bytes")),
+                coefficient,
+            })
+        }
+        Ok(other) => unreachable!("a decimal is read as one: {other:?}"),
+        Err(error) => {
+            let refusal = Refusal::from(error);
+            let position = refusal.position.map(|position| asked.at + position);
+            Err(Refusal {
+                position,
+                ..refusal
+            })
+        }
+    }
 }
 
 // ===== Frames =====
@@ -486,7 +552,7 @@ pub fn scalar(asked: &Asked<'_>, position: usize) -> Result<Reading, Refusal> {
     })
 }
 
-/// Decimals and timestamps are framed, not read.
+/// Decimals and timestamps are framed, not read; `decimal` reads a decimal's body.
 fn scalar_of(asked: &Asked<'_>, value: &LazyRawBinaryValue_1_0<'_>) -> Result<Scalar, Refusal> {
     let body = value.encoded_value.value_body_range();
     if !value.is_null() {

@@ -3,7 +3,7 @@
 //! Everything that isn't the Rust's answer, because it has no such entry or a change request wants
 //! another, ends in ` !`.
 
-use crate::asking::{self, Annotation, Annotations, Asked, Item, Line, Number};
+use crate::asking::{self, Annotation, Annotations, Asked, Decimal, Item, Line, Number};
 use crate::asking::{Refusal, Rules, Scalar, Spans};
 use crate::lazy::binary::raw::type_descriptor::TypeDescriptor;
 use crate::lazy::expanded::EncodingContext;
@@ -126,7 +126,7 @@ fn answer_one(
     }
     let wanted = match kind {
         "descriptor" => 0,
-        "varuint" | "varint" | "length" | "pad" | "wrapper" | "walk" => 2,
+        "varuint" | "varint" | "decimal" | "length" | "pad" | "wrapper" | "walk" => 2,
         "int" | "stream" | "sequence" | "struct" | "annotations" | "scalar" | "stepin" => 3,
         _ => return None,
     };
@@ -154,6 +154,7 @@ fn answer_part(kind: &str, asked: &Asked<'_>, third: usize, out: &mut Vec<u8>) {
         "varuint" => asking::var_uint(part).map(|number| say_var_uint(number, out)),
         "varint" => asking::var_int(part).map(|number| say_var_int(number, out)),
         "int" => asking::int(part, third).map(|number| say_int(number, out)),
+        "decimal" => asking::decimal(asked).map(|decimal| say_decimal(decimal, out)),
         "length" => {
             asking::length(part).map(|(body, length)| say(out, format_args!("{body} {length}")))
         }
@@ -280,6 +281,19 @@ fn say_int(number: Option<Number>, out: &mut Vec<u8>) {
     say(out, format_args!("{} ", sign(number.negative)));
     say_magnitude(number.magnitude, out);
     say(out, format_args!(" {}", number.next));
+}
+
+fn say_decimal(decimal: Decimal, out: &mut Vec<u8>) {
+    let Some(magnitude) = decimal.magnitude else {
+        return say(out, format_args!("unsupported"));
+    };
+    let exponent = decimal.exponent;
+    say(
+        out,
+        format_args!("{} {} ", sign(exponent < 0), exponent.unsigned_abs()),
+    );
+    say(out, format_args!("{} ", sign(decimal.negative)));
+    say_magnitude(magnitude, out);
 }
 
 // ===== Steps =====

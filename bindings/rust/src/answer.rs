@@ -19,6 +19,7 @@ pub(crate) mod kind {
     pub(crate) const SCALAR: u64 = 7;
     pub(crate) const NUMBER: u64 = 8;
     pub(crate) const REFUSED: u64 = 9;
+    pub(crate) const DECIMAL: u64 = 10;
 }
 
 /// The words of a record that is no refusal.

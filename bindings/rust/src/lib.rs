@@ -4,6 +4,7 @@
 
 mod annotations;
 mod answer;
+mod decimal;
 mod item;
 mod limits;
 mod number;
@@ -15,6 +16,7 @@ mod steps;
 mod walk;
 
 pub use annotations::{annotation, annotations, Annotation, Annotations};
+pub use decimal::{decimal, Decimal};
 pub use item::{Item, Marker, Type, Value};
 pub use limits::Limits;
 pub use number::{int, var_int, var_uint, Int, VarInt, VarUInt};

@@ -74,6 +74,7 @@ extern "C" {
         out: *mut u8,
         out_len: usize,
     ) -> u64;
+    fn ion_map_decimal(map: *const u8, map_len: usize, start: usize, end: usize, out: *mut u8, out_len: usize) -> u64;
     fn ion_map_steps(
         map: *const u8,
         map_len: usize,
@@ -233,6 +234,18 @@ pub fn number(map: &[u8], start: usize, end: usize, position: usize, form: u64, 
             out.len(),
         )
     }
+}
+
+/// The decimal whose body is `start..end`.
+///
+/// ```
+/// let mut record = [0; ion_map::raw::RECORD_SIZE];
+/// assert_eq!(ion_map::raw::decimal(&[0x52, 0xC1, 0x63], 1, 3, &mut record), 0);
+/// assert_eq!(ion_map::raw::words(&record), [10, 0, 1, 99, 1, 3, 3, 1, 0]);
+/// ```
+pub fn decimal(map: &[u8], start: usize, end: usize, out: &mut [u8]) -> u64 {
+    // SAFETY: as in `step`.
+    unsafe { ion_map_decimal(map.as_ptr(), map.len(), start, end, out.as_mut_ptr(), out.len()) }
 }
 
 /// As many steps as `out` has room for, a record each, up to an end or a refusal. Returns what the last one

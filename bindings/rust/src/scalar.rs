@@ -24,7 +24,7 @@ pub enum Scalar<'a> {
     },
     /// A float, also where the map has 32 bits of it or none.
     Float(f64),
-    /// A decimal's body: a VarInt, the exponent, and the rest as an Int, the coefficient.
+    /// A decimal's body, which [`decimal`](crate::decimal) splits.
     Decimal(&'a [u8]),
     /// A timestamp's body.
     Timestamp(&'a [u8]),

@@ -4,8 +4,8 @@ mod common;
 
 use common::short;
 use ion_map::{
-    annotation, annotations, int, items, raw, scalar, step, step_in, var_int, var_uint, walk, walked, Limits, Part,
-    PartKind, Refusal,
+    annotation, annotations, decimal, int, items, raw, scalar, step, step_in, var_int, var_uint, walk, walked, Limits,
+    Part, PartKind, Refusal,
 };
 use raw::RECORD_SIZE;
 use std::ops::Range;
@@ -54,6 +54,12 @@ fn positions_of_any_size() {
     ];
     for start in numbers {
         for end in numbers {
+            let split = decimal(&map, start..end).err();
+            assert_eq!(
+                split == Some(OUTSIDE),
+                !(start <= end && end <= map.len()),
+                "{start}..{end}"
+            );
             for position in numbers {
                 let inside = start <= position && position <= end && end <= map.len();
                 for refusal in refusals(&map, start..end, position) {
@@ -94,6 +100,7 @@ fn short_buffers_and_unknown_kinds() {
         assert_eq!(raw::step_in(&map, 9, 0, 9, 9, out), 51);
         assert_eq!(raw::scalar(&map, 9, 0, 9, 9, out), 51);
         assert_eq!(raw::number(&map, 9, 0, 9, 9, 9, out), 51);
+        assert_eq!(raw::decimal(&map, 9, 0, out), 51);
         assert_eq!(raw::steps(&map, 9, 0, 9, 9, 9, out), (51, 0));
         assert!(out.iter().all(|byte| *byte == 0xAA));
     }
@@ -174,8 +181,23 @@ fn ask(map: &[u8]) {
     for position in 0..=map.len() {
         refusals(map, 0..map.len(), position);
         annotations(map, position..map.len()).for_each(drop);
+        check_decimal(map, position);
     }
     check_walk(map);
+}
+
+/// A body is split as its VarInt is read, and its positions are the map's.
+fn check_decimal(map: &[u8], start: usize) {
+    let body = start..map.len();
+    let exponent = var_int(map, body.clone(), start);
+    match decimal(map, body.clone()) {
+        Ok(split) if body.is_empty() => assert_eq!(split.to_i64_and_scale(), Some((0, 0))),
+        Ok(split) => assert_eq!(
+            Some(split.exponent),
+            exponent.ok().and_then(|exponent| exponent.to_i64())
+        ),
+        refused => assert_eq!(refused.err(), exponent.err()),
+    }
 }
 
 /// Items lie in their part one after the other, and only the last answer is a refusal.

@@ -1,8 +1,8 @@
 //! A short example of each function, with the maps at the edges.
 
 use ion_map::{
-    annotation, annotations, int, items, raw, scalar, step, step_in, var_int, var_uint, walk, walked, Body, Item,
-    Limits, Part, PartKind, Refusal, Scalar, Type,
+    annotation, annotations, decimal, int, items, raw, scalar, step, step_in, var_int, var_uint, walk, walked, Body,
+    Item, Limits, Part, PartKind, Refusal, Scalar, Type,
 };
 use std::error::Error;
 
@@ -275,16 +275,82 @@ fn ints_of_a_length() {
     assert_eq!(value(usize::MAX), Err(refusal(9, 0)));
 }
 
-/// A decimal's body, read by the numbers of which it is made.
+/// A decimal's body is split as the numbers are read of which it is made.
 #[test]
-fn a_decimal() {
+fn a_decimal_by_its_numbers() {
     let map = [0x52, 0xC1, 0x63];
     let item = first(&map).unwrap();
     let body = item.value().unwrap().body.clone();
     let exponent = var_int(&map, body.clone(), body.start).unwrap();
     let length = body.end - exponent.span.end;
-    let coefficient = int(&map, body, exponent.span.end, length).unwrap();
+    let coefficient = int(&map, body.clone(), exponent.span.end, length).unwrap();
     assert_eq!((coefficient.to_i128(), exponent.to_i64()), (Some(99), Some(-1)));
+    assert_eq!(
+        decimal(&map, body).map(|split| split.to_i64_and_scale()),
+        Ok(Some((99, 1)))
+    );
+}
+
+#[test]
+fn decimals() {
+    let text = |body: &[u8]| decimal(body, 0..body.len()).map(|decimal| decimal.to_string());
+    assert_eq!(text(&[]), Ok("0d0".to_string()));
+    assert_eq!(text(&[0x80]), Ok("0d0".to_string()));
+    assert_eq!(text(&[0xC0]), Ok("0d0".to_string()));
+    assert_eq!(text(&[0xC1]), Ok("0d-1".to_string()));
+    assert_eq!(text(&[0x80, 0x80]), Ok("-0d0".to_string()));
+    assert_eq!(text(&[0xC0, 0x80]), Ok("-0d0".to_string()));
+    assert_eq!(text(&[0xC1, 0x63]), Ok("99d-1".to_string()));
+    assert_eq!(text(&[0x40, 0x81, 0x80, 0x81]), Ok("-129d-1".to_string()));
+    assert_eq!(text(&[0x80, 0x3B, 0x9A, 0xCA, 0x00]), Ok("1000000000d0".to_string()));
+    assert_eq!(
+        text(&[0x80, 0x01, 0x00, 0, 0, 0, 0, 0, 0, 0]),
+        Ok("18446744073709551616d0".to_string())
+    );
+    let least = [0x7F, 0x7F, 0x7F, 0x7F, 0x7F, 0x7F, 0x7F, 0x7F, 0xFF];
+    assert_eq!(text(&least), Ok("0d-4611686018427387903".to_string()));
+    assert_eq!(text(&[0x01]), Err(refusal(4, 1)));
+    assert_eq!(text(&[0, 0, 0, 0, 0, 0, 0, 0, 0, 0x80]), Err(refusal(20, 0)));
+
+    // 256^40, which is 2^320.
+    let mut large = vec![0; 42];
+    (large[0], large[1]) = (0x80, 0x01);
+    let digits = "2135987035920910082395021706169552114602704522356652769947041607822219725780640550022962086936576";
+    assert_eq!(text(&large), Ok(format!("{digits}d0")));
+}
+
+#[test]
+fn decimals_as_numbers() {
+    let value = |body: &[u8]| decimal(body, 0..body.len()).map(|decimal| decimal.to_i64_and_scale());
+    assert_eq!(value(&[]), Ok(Some((0, 0))));
+    assert_eq!(value(&[0xC1, 0x63]), Ok(Some((99, 1))));
+    assert_eq!(value(&[0x82, 0xE3]), Ok(Some((-99, -2))));
+    assert_eq!(value(&[0xC3, 0x80]), Ok(Some((0, 3))));
+    assert_eq!(
+        value(&[0xC1, 0x7F, 0xFF, 0xFF, 0xFF, 0xFF, 0xFF, 0xFF, 0xFF]),
+        Ok(Some((i64::MAX, 1)))
+    );
+    assert_eq!(value(&[0xC1, 0x00, 0x80, 0, 0, 0, 0, 0, 0, 0]), Ok(None));
+    assert_eq!(value(&[0xC1, 0x80, 0x80, 0, 0, 0, 0, 0, 0, 0]), Ok(Some((i64::MIN, 1))));
+    assert_eq!(value(&[0xC1, 0x80, 0x80, 0, 0, 0, 0, 0, 0, 1]), Ok(None));
+    assert_eq!(value(&[0xFF; 40]), Ok(None));
+}
+
+/// A decimal's bytes are the map's own, its positions are counted from the map's start, and the bytes around it play no part.
+#[test]
+fn decimals_in_a_map() {
+    let map = [0x11, 0x54, 0xC1, 0x83, 0x02, 0x01, 0x80];
+    let split = decimal(&map, 2..6).unwrap();
+    assert_eq!((split.negative, split.first, split.exponent), (true, 3, -1));
+    assert_eq!(split.rest.as_ptr_range(), map[4..6].as_ptr_range());
+    assert_eq!(decimal(&map, 5..6), Err(refusal(4, 6)));
+    assert_eq!(decimal(&map, 7..7).map(|zero| zero.to_string()), Ok("0d0".to_string()));
+
+    let Ok(Scalar::Decimal(body)) = scalar(&map, Part::stream(&map), 1) else {
+        panic!("no decimal")
+    };
+    assert_eq!(decimal(body, 0..body.len()), Ok(split));
+    assert_eq!(split.to_string(), "-197121d-1");
 }
 
 #[test]

@@ -3,3 +3,4 @@ pub mod BigEndian
 pub mod Widening
 pub mod Rows
 pub mod Encoding
+pub mod Splitting

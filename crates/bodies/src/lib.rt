@@ -1,4 +1,5 @@
-// What is read from a scalar's body by itself: UTF-8, floats, big-endian numbers and magnitudes.
+// What is read from a scalar's body by itself: UTF-8, floats, big-endian numbers, magnitudes and decimals.
+pub mod decimal;
 pub mod float;
 pub mod magnitude;
 pub mod uint;

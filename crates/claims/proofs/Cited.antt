@@ -9,6 +9,7 @@ use Rattle.numbers.proofs.Meaning.{var-uint-sound, var-uint-complete, var-int-s
 use Rattle.framing.proofs.Ranges.{limit-range}
 use Rattle.framing.proofs.Soundness.{values-sound, pads-sound}
 use Rattle.framing.proofs.Completeness.{values-complete, pads-complete}
+use Rattle.bodies.proofs.Splitting.{decimals-sound, decimals-complete, empty-decimals, decimals-local, decimals-moved}
 use Rattle.stepping.proofs.Soundness.{steps-sound, steps-repeat, refusals-keep}
 use Rattle.stepping.proofs.Completeness.{steps-complete}
 use Rattle.stepping.proofs.Tiling.{runs}
@@ -55,6 +56,11 @@ equal =
       stepsSound = steps-sound;
       stepsComplete = steps-complete;
       scalars = scalars-meant;
+      decimalsSound = decimals-sound;
+      decimalsComplete = decimals-complete;
+      emptyDecimals = empty-decimals;
+      decimalsLocal = decimals-local;
+      decimalsMoved = decimals-moved;
       walk = exact;
       limitRange = limit-range;
       limitsRange = limits-range;

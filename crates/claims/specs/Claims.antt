@@ -9,6 +9,7 @@ use contract.Running.{GhostRules}
 use Rattle.numbers.specs.Meaning.{VarUIntSound, VarUIntComplete, VarIntSound, VarIntComplete, IntsSound, IntsComplete}
 use Rattle.framing.specs.Limits.{LimitRange}
 use Rattle.framing.specs.Meaning.{ValuesSound, ValuesComplete, PadsSound, PadsComplete}
+use Rattle.bodies.specs.Decimal.{DecimalsSound, DecimalsComplete, EmptyDecimals, DecimalsLocal, DecimalsMoved}
 use Rattle.stepping.specs.Meaning.{StepsSound, StepsComplete, StepsRepeat, RefusalsKeep}
 use Rattle.stepping.specs.Theorems.{RunsExist}
 use Rattle.values.specs.Meaning.{ScalarsMeant}
@@ -65,6 +66,13 @@ pub record Equal : Type 0 where
   pub stepsComplete : StepsComplete
   -- scalars
   pub scalars : ScalarsMeant
+  -- decimals, by the change request A.1: "the exponent, negative zero as 0, and the coefficient as an Int's answer. An empty body is zero with exponent 0"; and
+  -- that the answer depends on the body's bytes alone, wherever they stand
+  pub decimalsSound : DecimalsSound
+  pub decimalsComplete : DecimalsComplete
+  pub emptyDecimals : EmptyDecimals
+  pub decimalsLocal : DecimalsLocal
+  pub decimalsMoved : DecimalsMoved
   -- the walk: "Markers and values in order, a non-null container before what is in it"
   pub walk : Exact
   -- the limits, by the change request A.9: each theorem here is for every limit of annotation bytes and every depth. 68 is answered outside 255 to 65535 and

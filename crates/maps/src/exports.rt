@@ -7,16 +7,18 @@ ghost use Prim.Native.Nat.{ℕ, _≤_, _<_};
 ghost use lib.ListN.{length, take};
 ghost use Rattle.numbers.specs.Outcome.{refuses};
 ghost use Rattle.framing.specs.Limits.{outOfRange};
+ghost use Rattle.bodies.specs.Decimal.{decimal};
 ghost use Rattle.stepping.specs.Answers.{answerAt};
 ghost use Rattle.stepping.specs.Read.{itemRead};
 ghost use Rattle.values.specs.Scalars.{stepIn, readScalar, readWithValue};
 ghost use Rattle.walking.specs.Walk.{wholeWalk};
 ghost use Rattle.walking.specs.Calls.{itemsIn};
 ghost use Rattle.records.specs.Buffer.{recordIn, returned};
-ghost use Rattle.records.specs.Words.{words, annotationWords, bodyWords, readingWords, numberWords};
+ghost use Rattle.records.specs.Words.{words, annotationWords, bodyWords, readingWords, numberWords, decimalWords};
 ghost use Rattle.maps.specs.Private.Inside.{ShortAt};
 ghost use Rattle.maps.specs.Exported.{exportedStep, exportedAnnotation, exportedBody, numberBy, exportedNumber};
 use crate::inside;
+use bodies::decimal::read_decimal;
 use framing::annotations_iterator::read_annotation;
 use framing::binary_buffer::bare_value;
 use framing::binary_buffer::begins_value;
@@ -37,6 +39,7 @@ use records::buffer::RECORD_WORDS;
 use records::buffer::put_record;
 use records::words::annotation_words;
 use records::words::body_words;
+use records::words::decimal_words;
 use records::words::item_words;
 use records::words::number_words;
 use records::words::outside_words;
@@ -296,4 +299,13 @@ pub extern "C" fn ion_map_walked(map: &[u8], most: u64, limit: usize, deepest: u
     ensures { λ r. ⌜ r ≡ itemsIn (take most (wholeWalk limit deepest (now (map .entry)))) ⌝ }
 {
     count_items(map, most, limit, deepest)
+}
+
+// Splits the decimal whose body is start..end.
+#[no_mangle]
+pub extern "C" fn ion_map_decimal(map: &[u8], start: usize, end: usize, out: &mut [u8]) -> u64
+    ensures { λ r. ⌜ r ≡ returned (now (out .entry)) (decimal (now (map .entry)) start end) ⌝ }
+    ensures { λ _. ⌜ now (out .exit) ≡ recordIn (decimalWords start (decimal (now (map .entry)) start end)) (now (out .entry)) ⌝ }
+{
+    put_record(out, decimal_words(start, read_decimal(map, start, end)))
 }

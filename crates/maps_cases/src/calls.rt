@@ -3,6 +3,7 @@ ghost use mathlib.Core.Path.{_≡_};
 ghost use Prim.Native.Nat.{_<_, _≤_};
 ghost use lib.ListN.{length};
 use maps::exports::ion_map_annotation;
+use maps::exports::ion_map_decimal;
 use maps::exports::ion_map_number;
 use maps::exports::ion_map_scalar;
 use maps::exports::ion_map_step;
@@ -46,6 +47,9 @@ fn argument(line: &[u8], n: usize) -> usize {
 fn size_word(asked: &[u8]) -> usize {
     if check::same(asked, b"walked") {
         return 0;
+    }
+    if check::same(asked, b"decimal") {
+        return 4;
     }
     if check::same(asked, b"number") {
         return 7;
@@ -143,6 +147,9 @@ fn called(line: &[u8], map: &[u8], out: &mut [u8]) -> Line {
             size,
             out,
         ));
+    }
+    if check::same(asked, b"decimal") {
+        return Line::new().number(ion_map_decimal(map, start, end, out));
     }
     if check::same(asked, b"walked") {
         let most = start;

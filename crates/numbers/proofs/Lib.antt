@@ -8,4 +8,5 @@ pub mod Parts
 pub mod Meaning
 pub mod ShortVarUInts
 pub mod Locality
+pub mod Moving
 pub mod Examples

@@ -8,10 +8,11 @@ use lib.Dec.{ltb}
 use Rattle.numbers.specs.Outcome.{Outcome, gives, refuses, andThen, pick}
 use Rattle.framing.specs.Spans.{Spans}
 use Rattle.framing.specs.Answers.{Annotated, ident, finished}
+use Rattle.bodies.specs.Decimal.{Split}
 use Rattle.stepping.specs.Items.{Item, finish, marker, value, field}
 use Rattle.values.specs.Scalars.{valueIn, Opened, opened, Scalar, scalarOf, readScalar, withValue, readWithValue}
 use Rattle.records.specs.FirstWords.{enteredAt, enter, Number}
-use Rattle.records.specs.Words.{words, annotationWords, bodyWords, scalarWords, readingWords, numberWords}
+use Rattle.records.specs.Words.{words, annotationWords, bodyWords, scalarWords, readingWords, numberWords, decimalWords}
 use Rattle.records.specs.Buffer.{recordSize, numberOf, returned, numberIn, returnedBy}
 
 pub step-number : (o : Outcome Item) → numberIn (words o) ≡ numberOf o
@@ -56,6 +57,11 @@ pub number-number : (at : ℕ) (o : Outcome Number) → numberIn (numberWords at
 unfolding numberIn
 number-number at (gives n) = refl
 number-number at (refuses n p) = refl
+
+pub decimal-number : (start : ℕ) (o : Outcome Split) → numberIn (decimalWords start o) ≡ numberOf o
+unfolding numberIn
+decimal-number start (gives d) = refl
+decimal-number start (refuses n p) = refl
 
 -- what a call that puts an answer's words returns
 pub returned-by : {A : Type 0} (ws old : List ℕ) (o : Outcome A) → numberIn ws ≡ numberOf o → returnedBy ws old ≡ returned old o

@@ -5,9 +5,10 @@ use mathlib.Core.List.{List, [], _∷_, _++_}
 use Rattle.numbers.specs.Outcome.{Outcome, gives, refuses}
 use Rattle.framing.specs.Spans.{Spans}
 use Rattle.framing.specs.Answers.{Annotated}
+use Rattle.bodies.specs.Decimal.{Split}
 use Rattle.stepping.specs.Items.{Item, finish, marker, value, field}
 use Rattle.values.specs.Scalars.{Scalar, ReadValue, spanOf}
-use Rattle.records.specs.FirstWords.{Entered, Number}
+use Rattle.records.specs.FirstWords.{Entered, oneIf, Number}
 use Rattle.records.specs.FirstWords as first
 
 -- "The first eight words keep their meaning", and behind them stands word 8
@@ -62,3 +63,21 @@ readingWords (refuses number at) = refusedWords number at
 
 abbrev pub numberWords : ℕ → Outcome Number → List ℕ
 numberWords position o = withLength (first.numberWords position o) 0
+
+-- ---- decimals, A.1
+
+-- kind 10, 1 where the coefficient is negative, the body's start, the coefficient's seven bits, 1 where the exponent is negative, the start and the end of the
+-- coefficient's further bytes, the exponent's magnitude, 0
+abbrev pub decimalWords : ℕ → Outcome Split → List ℕ
+decimalWords start (gives d) =
+    10
+    ∷ oneIf (d .coefficient .negative)
+    ∷ start
+    ∷ d .coefficient .first
+    ∷ oneIf (d .exponentNegative)
+    ∷ d .coefficient .rest
+    ∷ d .coefficient .end
+    ∷ d .exponent
+    ∷ 0
+    ∷ []
+decimalWords start (refuses number at) = refusedWords number at

@@ -4,12 +4,14 @@ ghost use Prim.Native.Nat.{_-_};
 ghost use mathlib.Core.List.{[], _∷_};
 ghost use Rattle.numbers.specs.Outcome.{andThen};
 ghost use Rattle.framing.specs.Read.{annotationRead, spansOf};
+ghost use Rattle.bodies.specs.Decimal.{decimalRead};
 ghost use Rattle.stepping.specs.Read.{itemRead};
 ghost use Rattle.values.specs.Read.{bodyRead, scalarRead};
 ghost use Rattle.records.specs.FirstWords.{enteredAt, oneIf};
-ghost use Rattle.records.specs.Words.{words, valueWords, endWords, refusedWords, annotationWords, bodyWords, scalarWords};
+ghost use Rattle.records.specs.Words.{words, valueWords, endWords, refusedWords, annotationWords, bodyWords, scalarWords, decimalWords};
 use crate::buffer::RECORD_WORDS;
 use crate::buffer::REFUSED;
+use bodies::decimal::Decimal;
 use framing::annotations_iterator::Annotation;
 use framing::encoded_value::EncodedValue;
 use numbers::refusal::OUTSIDE;
@@ -222,4 +224,31 @@ pub fn number_words(
         0,
         0,
     ]
+}
+
+// The words of a decimal whose body begins at `start`.
+pub fn decimal_words(start: usize, decimal: Decimal) -> [u64; RECORD_WORDS]
+    ensures { λ r. ⌜ r ≡ decimalWords start (decimalRead decimal) ⌝ }
+{
+    match decimal {
+        Decimal::Value {
+            exponent_negative,
+            exponent,
+            negative: below,
+            first,
+            rest: further,
+            end,
+        } => [
+            10,
+            one_if(below),
+            start as u64,
+            wide(first),
+            one_if(exponent_negative),
+            further as u64,
+            end as u64,
+            exponent as u64,
+            0,
+        ],
+        Decimal::Refused(refusal) => refused_words(refusal),
+    }
 }

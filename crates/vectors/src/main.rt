@@ -1,5 +1,6 @@
 // Answers the questions of the files that its arguments name on the layers below the exports, and compares each answer with
 // the one written there: for each file it writes how many agree and how many differ, and each one that differs.
+mod decimal_questions;
 mod frame_questions;
 mod number_questions;
 mod scalar_questions;
@@ -48,6 +49,10 @@ fn answer(line: &[u8]) -> Line {
     let on_values = scalar_questions::answer(asked, s, a, b, c, limit);
     if 0 < on_values.len {
         return on_values;
+    }
+    let on_decimals = decimal_questions::answer(asked, s, a, b);
+    if 0 < on_decimals.len {
+        return on_decimals;
     }
     if check::same(asked, b"walk") {
         return walk_questions::walk(

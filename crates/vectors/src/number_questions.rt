@@ -61,7 +61,7 @@ fn int_parts(s: &[u8], at: usize, end: usize, length: usize) -> Line {
 }
 
 // A magnitude's bytes without leading zeros, `-` where none is left.
-fn magnitude(line: Line, first: u8, rest: &[u8]) -> Line {
+pub fn magnitude(line: Line, first: u8, rest: &[u8]) -> Line {
     let mut out = line.byte(b' ');
     let mut any = false;
     if first != 0 {

@@ -1,7 +1,9 @@
 //! What a record must hold for the Rust's answer to be ours.
 
 use crate::ours::{Part, Record, WORDS};
-use oracle::asking::{Annotation, Item, Limits, Number, Opened, Reading, Refusal, Scalar, Spans};
+use oracle::asking::{
+    Annotation, Decimal, Item, Limits, Number, Opened, Reading, Refusal, Scalar, Spans,
+};
 use oracle::requests::Request;
 use oracle::IonType;
 
@@ -231,6 +233,27 @@ impl Expected {
             0,
             0,
         ])
+    }
+
+    pub fn decimal(map: &[u8], part: Part, decimal: Decimal) -> Self {
+        let exponent = decimal.exponent;
+        let first = map[decimal.coefficient..part.end].first().copied();
+        let words = [
+            10,
+            decimal.negative as u64,
+            part.position as u64,
+            first.map_or(0, |first| (first & 0x7F) as u64),
+            (exponent < 0) as u64,
+            part.end.min(decimal.coefficient + 1) as u64,
+            part.end as u64,
+            exponent.unsigned_abs(),
+            0,
+        ];
+        match decimal.magnitude {
+            Some(magnitude) => Expected::except(words, &[3], Test::Further(magnitude)),
+            // The Rust isn't asked for the coefficient: by the Ion document.
+            None => Expected::exactly(words),
+        }
     }
 
     pub fn is_refusal(&self) -> bool {

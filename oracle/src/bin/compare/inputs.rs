@@ -112,6 +112,7 @@ pub fn ask_at<R: Reader>(session: &mut Session<R>, map: &[u8], part: Part) {
     session.ask(map, Ask::Number(VAR_INT, 0), part);
     let size = (part.end - part.position).min(15);
     session.ask(map, Ask::Number(INT, size), part);
+    session.ask(map, Ask::Decimal, part);
 }
 
 /// Every question about a part from its start.
@@ -293,6 +294,7 @@ fn at_boundary(random: &mut Random, number: usize) -> Vec<u8> {
         7 => float(random),
         8 => text(random),
         9 => wrapper(random),
+        10 if random.one_in(2) => decimal(random),
         10 => numbers_only(random),
         11 => marker(random),
         _ => field(random),
@@ -504,6 +506,15 @@ fn wrapper(random: &mut Random) -> Vec<u8> {
     joined(&[&head, &length, &ids, &inner])
 }
 
+/// A decimal's body, by itself or behind a descriptor.
+fn decimal(random: &mut Random) -> Vec<u8> {
+    let body = random.decimal_body();
+    match random.one_in(3) {
+        true => random.framed(5, &plain(body), false).bytes,
+        false => body,
+    }
+}
+
 /// A marker whose numbers and last byte are as in version 1.0 or not, between other items.
 fn marker(random: &mut Random) -> Vec<u8> {
     let major = random.pick(&[0x01, 0x01, 0x01, 0x00, 0x02, 0x81, 0xEA, 0xFF]);
@@ -580,7 +591,7 @@ fn any_ask(random: &mut Random) -> Ask {
         1 => random.pick(&[4, 256, 1 << 32, u64::MAX, u64::MAX - 1]),
         _ => random.below(3) as u64,
     };
-    match random.below(16) {
+    match random.below(17) {
         0..=3 => Ask::Run(rules),
         4 | 5 => Ask::Batch(rules, random.from_to(RECORD, MOST_ROOM)),
         6 => Ask::Annotations,
@@ -589,6 +600,7 @@ fn any_ask(random: &mut Random) -> Ask {
         11 | 12 => Ask::Number(rules, int_size(random)),
         13 => Ask::Walk,
         14 => Ask::Walked(random.below(8) as u64),
+        15 => Ask::Decimal,
         _ => Ask::Short(random.pick(&ENTRIES), random.below(RECORD)),
     }
 }

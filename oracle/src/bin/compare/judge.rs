@@ -12,7 +12,7 @@ use std::ops::RangeInclusive;
 #[derive(Clone, Copy, Debug, PartialEq)]
 pub enum Verdict {
     Agree,
-    /// An int or Int of more than 15 bytes: as the Ion document has it, the Rust not asked.
+    /// An int, Int or coefficient of more than 15 bytes: as the Ion document has it, the Rust not asked.
     Apart,
     /// As this change request has it, and another answer than the Rust's.
     Moved(Request),
@@ -211,6 +211,7 @@ impl<'a, R: Reader> Bench<'a, R> {
             Ask::Scalar => return self.scalar(part),
             Ask::Number(INT, size) => return self.int(part, size),
             Ask::Number(form, _) => self.var_number(part, form),
+            Ask::Decimal => return self.decimal(part),
             Ask::Walk => self.walk(part),
             Ask::Walked(most) => self.walked(part, most),
         };
@@ -421,6 +422,22 @@ impl<'a, R: Reader> Bench<'a, R> {
         self.check(part, room, returned, expected)
     }
 
+    fn decimal(&mut self, part: Part) -> Verdict {
+        let (expected, is_long) = match asking::decimal(&self.asked(part)) {
+            Ok(decimal) => (
+                Expected::decimal(self.map, part, decimal),
+                decimal.magnitude.is_none(),
+            ),
+            Err(refusal) => (Expected::refused(refusal), false),
+        };
+        let room = room_for(part);
+        let returned = self.reader.decimal(self.map, part, self.desk.lend(room));
+        match self.check(part, room, returned, &expected) {
+            true if is_long => Verdict::Apart,
+            fine => self.verdict_of(fine),
+        }
+    }
+
     fn walk(&mut self, part: Part) -> bool {
         let mut ours = Walk::new(part);
         let mut fine = true;
@@ -514,6 +531,7 @@ impl<'a, R: Reader> Bench<'a, R> {
             Ask::StepIn => (Entry::StepIn, 0, 0),
             Ask::Scalar => (Entry::Scalar, 0, 0),
             Ask::Number(form, size) => (Entry::Number, form, size),
+            Ask::Decimal => (Entry::Decimal, 0, 0),
             Ask::Walk | Ask::Walked(_) | Ask::Short(..) => unreachable!("asked elsewhere"),
         };
         let room = room_for(part);
@@ -553,6 +571,7 @@ impl<'a, R: Reader> Bench<'a, R> {
             Entry::StepIn => reader.step_in(map, part, out),
             Entry::Scalar => reader.scalar(map, part, out),
             Entry::Number => reader.number(map, part, kind, size, out),
+            Entry::Decimal => reader.decimal(map, part, out),
         }
     }
 }

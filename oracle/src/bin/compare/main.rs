@@ -109,7 +109,7 @@ fn report<R: Reader>(session: &mut Session<R>) {
         println!("{:>13}  {kind}", grouped(agreed));
     }
     println!(
-        "{:>13}  ints and Ints of more than 15 bytes, by the Ion document alone",
+        "{:>13}  ints, Ints and coefficients of more than 15 bytes, by the Ion document alone",
         grouped(tally.apart)
     );
     for (text, count) in moved(&tally) {

@@ -73,6 +73,14 @@ mod exported {
             out: *mut u8,
             room: usize,
         ) -> u64;
+        pub fn ion_map_decimal(
+            map: *const u8,
+            length: usize,
+            start: usize,
+            end: usize,
+            out: *mut u8,
+            room: usize,
+        ) -> u64;
         pub fn ion_map_walked(
             map: *const u8,
             length: usize,
@@ -120,6 +128,14 @@ impl Part {
         Part { position, ..self }
     }
 
+    /// The part from its position on.
+    pub fn from_position(self) -> Self {
+        Part {
+            start: self.position,
+            ..self
+        }
+    }
+
     /// The caller's duty: all else is refusal 50.
     pub fn is_inside(self, map: &[u8]) -> bool {
         self.start <= self.position && self.position <= self.end && self.end <= map.len()
@@ -163,6 +179,8 @@ pub trait Reader {
     fn step_in(&self, map: &[u8], part: Part, out: &mut [u8]) -> u64;
     fn scalar(&self, map: &[u8], part: Part, out: &mut [u8]) -> u64;
     fn number(&self, map: &[u8], part: Part, form: u64, size: usize, out: &mut [u8]) -> u64;
+    /// The body is the part from its position on.
+    fn decimal(&self, map: &[u8], part: Part, out: &mut [u8]) -> u64;
     fn walked(&self, map: &[u8], most: u64, limits: Limits) -> u64;
 
     /// The cursor for the next call: past an item, at the end, and after a refusal the one given.
@@ -266,6 +284,19 @@ impl Reader for Exports {
                 part.position,
                 form,
                 size,
+                out.as_mut_ptr(),
+                out.len(),
+            )
+        }
+    }
+
+    fn decimal(&self, map: &[u8], part: Part, out: &mut [u8]) -> u64 {
+        unsafe {
+            exported::ion_map_decimal(
+                map.as_ptr(),
+                map.len(),
+                part.position,
+                part.end,
                 out.as_mut_ptr(),
                 out.len(),
             )

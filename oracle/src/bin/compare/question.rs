@@ -24,15 +24,17 @@ pub enum Entry {
     StepIn,
     Scalar,
     Number,
+    Decimal,
 }
 
-pub const ENTRIES: [Entry; 6] = [
+pub const ENTRIES: [Entry; 7] = [
     Entry::Step,
     Entry::Steps,
     Entry::Annotation,
     Entry::StepIn,
     Entry::Scalar,
     Entry::Number,
+    Entry::Decimal,
 ];
 
 #[derive(Clone, Copy, Debug, PartialEq)]
@@ -47,6 +49,8 @@ pub enum Ask {
     Scalar,
     /// A number of this form; an Int of so many bytes.
     Number(u64, usize),
+    /// The decimal whose body is the part from its position on.
+    Decimal,
     /// Every line of the walk of the part.
     Walk,
     /// How many items the walk of the part hands out in so many calls.
@@ -62,7 +66,7 @@ pub struct Question {
 }
 
 /// What is counted apart, in the order of the report.
-pub const KINDS: [&str; 15] = [
+pub const KINDS: [&str; 16] = [
     "runs of stream steps",
     "runs of sequence steps",
     "runs of struct steps",
@@ -73,6 +77,7 @@ pub const KINDS: [&str; 15] = [
     "VarUInts",
     "VarInts",
     "Ints",
+    "decimals",
     "walks, line by line",
     "items of a walk, counted",
     "parts outside (50)",
@@ -88,17 +93,18 @@ impl Question {
     /// The index in `KINDS`.
     pub fn kind(&self, map: &[u8]) -> usize {
         match self.ask {
-            Ask::Short(..) => 13,
-            _ if self.is_out_of_range() => 14,
-            _ if self.is_outside(map) => 12,
+            Ask::Short(..) => 14,
+            _ if self.is_out_of_range() => 15,
+            _ if self.is_outside(map) => 13,
             Ask::Run(rules) => rules as usize,
             Ask::Batch(..) => 3,
             Ask::Annotations => 4,
             Ask::StepIn => 5,
             Ask::Scalar => 6,
             Ask::Number(form, _) => 7 + form as usize,
-            Ask::Walk => 10,
-            Ask::Walked(_) => 11,
+            Ask::Decimal => 10,
+            Ask::Walk => 11,
+            Ask::Walked(_) => 12,
         }
     }
 
@@ -111,6 +117,7 @@ impl Question {
             Ask::StepIn | Ask::Short(Entry::StepIn, _) => &["ion_map_step_in"],
             Ask::Scalar | Ask::Short(Entry::Scalar, _) => &["ion_map_scalar"],
             Ask::Number(..) | Ask::Short(Entry::Number, _) => &["ion_map_number"],
+            Ask::Decimal | Ask::Short(Entry::Decimal, _) => &["ion_map_decimal"],
             Ask::Walk => &["ion_map_step", "ion_map_step_in"],
             Ask::Walked(_) => &["ion_map_walked"],
             Ask::Short(Entry::Steps, _) => &["ion_map_steps"],
@@ -130,7 +137,7 @@ impl Question {
             !DEPTHS.contains(&depth),
         );
         match self.ask {
-            Ask::Annotations | Ask::Number(..) => false,
+            Ask::Annotations | Ask::Number(..) | Ask::Decimal => false,
             Ask::Walk | Ask::Walked(_) => is_many || is_deep,
             _ => is_many,
         }
@@ -138,12 +145,16 @@ impl Question {
 
     /// Whether the caller's arguments are refused, whatever the bytes are.
     pub fn is_outside(&self, map: &[u8]) -> bool {
+        let part = match self.ask {
+            Ask::Decimal => self.part.from_position(),
+            _ => self.part,
+        };
         let is_known = match self.ask {
             Ask::Run(rules) | Ask::Batch(rules, _) => rules <= STRUCT,
             Ask::Number(form, _) => form <= INT,
             _ => true,
         };
-        !is_known || !self.part.is_inside(map)
+        !is_known || !part.is_inside(map)
     }
 
     /// The question as a person reads it.
@@ -181,6 +192,7 @@ impl fmt::Display for Ask {
             Ask::Number(VAR_INT, _) => write!(f, "varint"),
             Ask::Number(INT, size) => write!(f, "int of {size} bytes"),
             Ask::Number(form, size) => write!(f, "number of form {form}, {size} bytes"),
+            Ask::Decimal => write!(f, "decimal"),
             Ask::Walk => write!(f, "walk"),
             Ask::Walked(most) => write!(f, "items of {most} calls of the walk"),
             Ask::Short(entry, room) => write!(f, "{entry:?} into {room} bytes"),

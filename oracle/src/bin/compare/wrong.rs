@@ -78,6 +78,12 @@ mistakes! {
     IntSignKept "keeps an Int's sign bit in its first bits"
     CutInt "puts the refusal of a short Int at the part's end"
     IdAtEnd "says end at an annotation that is cut short"
+    // Decimals.
+    ExponentZeroSigned "keeps the sign of a decimal's exponent of negative zero"
+    CoefficientSignLost "loses the sign of a decimal's coefficient"
+    CoefficientEarly "reads a decimal's coefficient from the exponent's last byte"
+    EmptyDecimal "refuses an empty decimal"
+    FromTheBody "counts a decimal's positions from its body's start"
     // Scalars.
     QuietNan "sets the quiet bit of an 8-byte NaN"
     MinusZero "reads the float -0 as 0"
@@ -492,6 +498,32 @@ impl Wrong {
         put(out, words)
     }
 
+    fn changed_decimal(&self, map: &[u8], part: Part, out: &mut [u8], given: u64) -> u64 {
+        let mut words = Record::read(out).0;
+        let [kind, _, start, _, _, rest, end, exponent, _] = words;
+        match (self.mistake, kind) {
+            (Mistake::EmptyDecimal, 10) if start == end => return refuse(out, 4, part.end),
+            (_, 10) if start == end => return given,
+            (Mistake::ExponentZeroSigned, 10) if exponent == 0 => {
+                words[4] = (map[part.position] >> 6 & 1) as u64
+            }
+            (Mistake::CoefficientSignLost, 10) => words[1] = 0,
+            (Mistake::CoefficientEarly, 10) if rest < end || map[part.end - 1] < 0x80 => {
+                let last = rest as usize - 2;
+                (words[1], words[3]) = (1, (map[last] & 0x7F) as u64);
+                words[5] = rest - 1;
+            }
+            (Mistake::FromTheBody, 10) => {
+                (words[2], words[5], words[6]) = (0, rest - start, end - start)
+            }
+            (Mistake::FromTheBody, 9) if given == 4 => {
+                return refuse(out, 4, part.end - part.position)
+            }
+            _ => return given,
+        }
+        put(out, words)
+    }
+
     /// The items of the walk by another reader or with other limits.
     fn counted(&self, reader: &impl Reader, map: &[u8], most: u64, limits: Limits) -> u64 {
         let mut walk = Walk::new(Part {
@@ -692,6 +724,16 @@ impl Reader for Wrong {
             match returned {
                 50 | 51 => returned,
                 _ => self.changed_number(map, part, form, out, returned),
+            }
+        })
+    }
+
+    fn decimal(&self, map: &[u8], part: Part, out: &mut [u8]) -> u64 {
+        self.with_arguments(map, part.from_position(), out, |part, out| {
+            let returned = Exports.decimal(map, part, out);
+            match returned {
+                50 | 51 => returned,
+                _ => self.changed_decimal(map, part, out, returned),
             }
         })
     }

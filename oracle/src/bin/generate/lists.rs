@@ -292,6 +292,47 @@ pub fn scalars(q: &mut Questions) {
     q.fill(Kind::Scalars, 1300, 60);
 }
 
+pub fn decimals(q: &mut Questions) {
+    for byte in 0..=255 {
+        q.whole("decimal", &[byte]);
+    }
+    // Exponents with every kind of coefficient.
+    let coefficients = "- 00 80 01 81 7F FF 0000 8000 0001 8001 00FF 80FF 000000 800000";
+    for exponent in words("80 81 BF C0 C1 FF 0080 4080 4081 3FFF 40000000000000000080") {
+        for coefficient in words(coefficients) {
+            q.whole("decimal", &joined(&[&exponent, &coefficient]));
+        }
+    }
+    // Exponents of every length.
+    for count in 0..=12 {
+        for ends in words("000000 7F7F7F 000080 7F7FFF 3F7FFF 400080 400081 010080") {
+            if count != 1 {
+                let exponent = run(ends[0], ends[1], ends[2], count);
+                q.whole("decimal", &exponent);
+                q.whole("decimal", &joined(&[&exponent, &[0x81, 0x02]]));
+            }
+        }
+    }
+    // Coefficients of every length.
+    for count in 1..=17 {
+        for ends in words("000000 800000 7FFFFF FFFFFF 800081 010000") {
+            let coefficient = run(ends[0], ends[1], ends[2], count);
+            q.whole("decimal", &joined(&[&[0xC3], &coefficient]));
+        }
+    }
+    // Parts inside slices: a body may not look past its end.
+    for at in 0..=6 {
+        for end in at..=6 {
+            q.ask("decimal", &words("814081C00080")[0], &[at, end]);
+        }
+    }
+    let (max, bytes) = (usize::MAX, [0x81, 0x82]);
+    for (at, end) in [(1, 0), (0, 3), (3, 3), (3, 2), (2, max), (max, 2)] {
+        q.ask("decimal", &bytes, &[at, end]);
+    }
+    q.fill(Kind::Decimals, 1300, 60);
+}
+
 pub fn walks(q: &mut Questions) {
     for depth in [0, 1, 2, 28, 30, 31, 32, 33, 34, 37] {
         for _ in 0..2 {

@@ -1,7 +1,7 @@
 //! Makes questions. The same arguments always make the same questions.
 //!
 //! `generate SEED COUNT [KIND..]`: COUNT questions of the kinds named, or of all of them: numbers,
-//! frames, steps, scalars, walks, and short (every short string in order).
+//! frames, steps, scalars, decimals, walks, and short (every short string in order).
 //! `generate list NAME`: the questions of the stored list of that name: edges by hand, then some
 //! made with a fixed seed.
 
@@ -21,6 +21,7 @@ enum Kind {
     Frames,
     Steps,
     Scalars,
+    Decimals,
     Walks,
     Short,
 }
@@ -30,6 +31,7 @@ const KINDS: &[(&str, Kind)] = &[
     ("frames", Kind::Frames),
     ("steps", Kind::Steps),
     ("scalars", Kind::Scalars),
+    ("decimals", Kind::Decimals),
     ("walks", Kind::Walks),
     ("short", Kind::Short),
 ];
@@ -262,6 +264,20 @@ impl Questions {
         self.ask(kind, &map.bytes, &[at, end, position]);
     }
 
+    /// A decimal's body, whole or with something missing, among other bytes.
+    fn decimals(&mut self) {
+        let random = &mut self.random;
+        let body = random.decimal_body();
+        let (before, behind) = (random.below(3), random.below(3));
+        let bytes = joined(&[&random.bytes(before), &body, &random.bytes(behind)]);
+        let (at, end) = match random.below(6) {
+            0 => random.part(bytes.len()),
+            1 => (before, before + random.below(body.len() + 1)),
+            _ => (before, before + body.len()),
+        };
+        self.ask("decimal", &bytes, &[at, end]);
+    }
+
     fn walks(&mut self) {
         let map = if self.random.one_in(60) {
             self.rare()
@@ -308,6 +324,7 @@ impl Questions {
             Kind::Frames => self.frames(),
             Kind::Steps => self.steps(),
             Kind::Scalars => self.scalars(),
+            Kind::Decimals => self.decimals(),
             Kind::Walks => self.walks(),
             Kind::Short => self.short(),
         }
@@ -339,6 +356,7 @@ fn main() {
                 "frames" => lists::frames(&mut q),
                 "steps" => lists::steps(&mut q),
                 "scalars" => lists::scalars(&mut q),
+                "decimals" => lists::decimals(&mut q),
                 "walks" => lists::walks(&mut q),
                 _ => usage(),
             }
@@ -365,8 +383,8 @@ fn main() {
                 .collect();
             if kinds.is_empty() {
                 kinds = KINDS.iter().map(|(_, kind)| *kind).collect();
-                // Twice, so that a million questions hold every string of up to two bytes.
-                kinds.push(Kind::Short);
+                // Three times, so that a million questions hold every string of up to two bytes.
+                kinds.extend([Kind::Short; 2]);
             }
             let mut q = Questions::new(seed, LARGE);
             for number in 0..count {
@@ -383,6 +401,6 @@ fn main() {
 
 fn usage() -> ! {
     eprintln!("usage: generate SEED COUNT [KIND..] or generate list NAME");
-    eprintln!("kinds: numbers frames steps scalars walks short; names: the first five");
+    eprintln!("kinds: numbers frames steps scalars decimals walks short; names: all but the last");
     std::process::exit(2)
 }

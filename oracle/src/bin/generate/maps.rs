@@ -276,6 +276,36 @@ impl Random {
         }
     }
 
+    /// A decimal's body: an exponent, now and then a long one or one without a last byte, and a
+    /// coefficient. Either is zero at times, with a sign or without.
+    pub fn decimal_body(&mut self) -> Vec<u8> {
+        let count = match self.below(6) {
+            0 => self.from_to(8, 11),
+            1 => self.from_to(2, 4),
+            _ => 1,
+        };
+        let mut exponent: Vec<u8> = self.bytes(count).iter().map(|byte| byte & 0x7F).collect();
+        if self.one_in(5) {
+            exponent = vec![0; count];
+            exponent[0] = self.pick(&[0, 0x40]);
+        }
+        if !self.one_in(10) {
+            exponent[count - 1] |= 0x80;
+        }
+        let count = match self.below(6) {
+            0 => 0,
+            1 => self.from_to(14, 17),
+            2 => self.from_to(7, 9),
+            _ => self.from_to(1, 3),
+        };
+        let mut coefficient = self.bytes(count);
+        if count > 0 && self.one_in(5) {
+            coefficient = vec![0; count];
+            coefficient[0] = self.pick(&[0, 0x80]);
+        }
+        joined(&[&exponent, &coefficient])
+    }
+
     /// A value without annotations.
     pub fn plain(&mut self, limits: Limits) -> Map {
         let type_code = if limits.depth > 0 && self.one_in(3) {

@@ -1,5 +1,5 @@
-// Stands for `types/decimal/coefficient.rs`: a decimal's coefficient, a sign and a magnitude. No
-// question reads a decimal. It decodes nothing.
+// Stands for `types/decimal/coefficient.rs`: a decimal's coefficient, a sign and a magnitude that the
+// Rust hands to it. It decodes nothing.
 
 use crate::types::integer::{Int, UInt};
 use crate::types::overflowing_int::{Magnitude, OverflowingInt};
