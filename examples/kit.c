@@ -85,6 +85,17 @@ static void check_step(void)
           ion_map_step(map, LENGTH, 0, LENGTH, 0, 0, LIMIT, record, sizeof record - ION_MAP_WORD_SIZE), 51);
 }
 
+static void check_ids(void)
+{
+    check("IDs of the step at the pad", ion_map_ids(map, LENGTH, 8, 13, 8, LIMIT), 2);
+    check("IDs of the step behind it", ion_map_ids(map, LENGTH, 8, 13, 10, LIMIT), 1);
+    check("IDs of the last step", ion_map_ids(map, LENGTH, 8, 13, 13, LIMIT), 0);
+    check("IDs up to a pad's end", ion_map_ids(map, LENGTH, 8, 10, 8, LIMIT), 1);
+    check("an ID with nothing behind it", ion_map_ids(map, LENGTH, 8, 9, 8, LIMIT), 1);
+    check("IDs outside", ion_map_ids(map, LENGTH, 8, SIZE_MAX, 8, LIMIT), 0);
+    check("IDs before the start", ion_map_ids(map, LENGTH, 9, 13, 8, LIMIT), 0);
+}
+
 static void check_annotation_and_step_in(void)
 {
     static const words annotation = {ION_MAP_KIND_ANNOTATION, 0, 6, 4, 0, 0, 7, 0, 0};
@@ -201,6 +212,7 @@ static void check_limits(void)
         check("wrong limit, steps", ion_map_steps(map, LENGTH, 0, LENGTH, 0, 0, limit, record, sizeof record, &count), 68);
         check("wrong limit, count", count, 1);
         check("wrong limit, walk", ion_map_walked(map, LENGTH, 9, limit, DEPTH), 0);
+        check("wrong limit, IDs", ion_map_ids(map, LENGTH, 8, 13, 8, limit), 0);
         check("short record", ion_map_step(map, LENGTH, 0, LENGTH, 0, 0, limit, record, sizeof record - 1), 51);
     }
     check("depth 1", ion_map_walked(lists, sizeof lists, 9, LIMIT, ION_MAP_LEAST_DEPTH), 2);
@@ -214,6 +226,7 @@ static void check_limits(void)
 int main(void)
 {
     check_step();
+    check_ids();
     check_annotation_and_step_in();
     check_scalar();
     check_number();

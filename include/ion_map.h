@@ -345,6 +345,12 @@ uint64_t ion_map_steps(const uint8_t *map, size_t map_len, size_t start, size_t 
    there. Fewer than `most` doesn't say which of these it was. With a limit out of range it is 0. */
 uint64_t ion_map_walked(const uint8_t *map, size_t map_len, uint64_t most, size_t annotations, size_t depth);
 
+/* How many field IDs the step at `position` in a struct's body start..end began to read: one for each pad that it
+   passes, and one more unless it ends there, also where that ID or what follows it is refused. 0 where the part or
+   the position is outside (50) or `annotations` out of range (68). */
+uint64_t ion_map_ids(const uint8_t *map, size_t map_len, size_t start, size_t end, size_t position,
+                     size_t annotations);
+
 /* Reads the number at `position` of the part start..end. `form` is ION_MAP_FORM_..., and 50 is returned for
    any other; an Int has `length` bytes, and the other forms take no notice of `length`. Record kinds: NUMBER,
    REFUSED. */

@@ -79,7 +79,7 @@ fn main() {
 }
 
 /// The functions that the comparison calls.
-const EXPORTS: [&str; 8] = [
+const EXPORTS: [&str; 9] = [
     "ion_map_step",
     "ion_map_steps",
     "ion_map_annotation",
@@ -88,6 +88,7 @@ const EXPORTS: [&str; 8] = [
     "ion_map_number",
     "ion_map_decimal",
     "ion_map_walked",
+    "ion_map_ids",
 ];
 
 /// Links a program with our reader, and the fuzzer's with libFuzzer.

@@ -141,11 +141,12 @@ fn is_ours(reader: Reader) -> bool {
 
 type Made = (&'static str, fn(usize) -> Vec<u8>);
 
-const KINDS: [Made; 5] = [
+const KINDS: [Made; 6] = [
     ("terrain", maps::terrain),
     ("symbols", maps::symbols),
     ("annotated", maps::annotated),
     ("padded", maps::padded),
+    ("opened", maps::opened),
     ("nested", maps::nested),
 ];
 
@@ -223,7 +224,7 @@ fn once(kind: &str, reader: &str) {
     let (_, make) = KINDS
         .into_iter()
         .find(|(name, _)| *name == kind)
-        .expect("the map is terrain, symbols, annotated, padded or nested");
+        .expect("the map is terrain, symbols, annotated, padded, opened or nested");
     let reader = ALL
         .into_iter()
         .find(|one| one.name() == reader)

@@ -209,6 +209,26 @@ pub fn with_exactly(size: usize, pads: usize) -> Vec<u8> {
     with_pads(size, 5, pads, pads)
 }
 
+/// Lists of structs of 4 to 12 small fields, nine in ten of which open with a pad.
+pub fn opened(size: usize) -> Vec<u8> {
+    stream(size, 9, |map, dice| {
+        let mut list = Bytes::new();
+        for _ in 0..100 {
+            let mut fields = Bytes::new();
+            if dice.from_to(0, 9) != 0 {
+                fields.var_uint(dice.from_to(0, 9));
+                fields.pad(dice.from_to(1, 20));
+            }
+            for _ in 0..dice.from_to(4, 12) {
+                fields.var_uint(dice.from_to(4, 400));
+                fields.small(dice);
+            }
+            list.container(STRUCT, &fields);
+        }
+        map.container(LIST, &list);
+    })
+}
+
 /// Containers in containers, `depth` of them, each with four small values before the next.
 fn nest(dice: &mut Dice, depth: usize, in_struct: bool) -> Bytes {
     let type_code = [LIST, SEXP, STRUCT][depth % 3];

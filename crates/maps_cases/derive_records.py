@@ -44,10 +44,12 @@ REFUSALS = {
     "number": {3, 4, 9, 20, 50, 51},
     "decimal": {4, 20, 50, 51},
     "walked": set(),
+    "ids": set(),
 }
 
 # How many numbers a question has before its limits.
-NUMBERS = {"step": 5, "steps": 5, "annotation": 4, "step_in": 4, "scalar": 4, "number": 6, "decimal": 3, "walked": 1}
+NUMBERS = {"step": 5, "steps": 5, "annotation": 4, "step_in": 4, "scalar": 4, "number": 6, "decimal": 3}
+NUMBERS |= {"walked": 1, "ids": 3}
 
 # ===== The records' words =====
 
@@ -193,7 +195,35 @@ def walked(data, most, limits):
     return min(most, len(steps.walk(data, 0, len(data), limits)) - 1)
 
 
+def struct_pads(data, at, end):
+    """How many pads a struct step passes, and whether it ends behind them."""
+    pads = 0
+    try:
+        while at < end:
+            _, after = var_uint(data, at, end)
+            if after == end or not steps.is_pad(data[after]):
+                break
+            at = steps.pad_end(data, after, end)
+            pads += 1
+    except Refused:
+        pass
+    return pads, at == end
+
+
+def ids(data, start, end, position, limits):
+    """The change request A.3: "the pads skipped, and one more unless it ended or was refused before any ID"."""
+    try:
+        steps.limits_fit(limits)
+        inside(data, start, end, position)
+    except Refused:
+        return 0
+    pads, ended = struct_pads(data, position, end)
+    return pads if ended else pads + 1
+
+
 # ===== What a call returns and leaves =====
+
+COUNTS = {"walked": walked, "ids": ids}
 
 SINGLE = {"step": step, "annotation": annotation, "step_in": step_in, "scalar": scalar, "number": number, "decimal": decimal}
 
@@ -254,8 +284,8 @@ def parsed(question):
 
 def answer(question):
     name, data, limits, numbers = parsed(question)
-    if name == "walked":
-        return str(walked(data, *numbers, limits))
+    if name in COUNTS:
+        return str(COUNTS[name](data, *numbers, limits))
     records = records_of(name, data, limits, *numbers)
     count = [str(len(records))] if name == "steps" else []
     return " ".join([str(returned(records)), *count, *shown(records, numbers[-1])])
@@ -324,9 +354,9 @@ def told_decimal(data, words):
 
 
 def asked(question):
-    """The oracle's question and what it is to answer; nothing where 50 or 51 is answered, or with other limits, which ion-rust hasn't got."""
+    """The oracle's question and what it is to answer; nothing where 50 or 51 is answered, of IDs or with other limits, which ion-rust hasn't got."""
     name, data, limits, numbers = parsed(question)
-    if limits != steps.SCOPE:
+    if limits != steps.SCOPE or name == "ids":
         return None
     text = question.split(" ")[1]
     if name == "walked":

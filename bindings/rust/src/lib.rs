@@ -23,5 +23,5 @@ pub use number::{int, var_int, var_uint, Int, VarInt, VarUInt};
 pub use part::{Part, PartKind};
 pub use refusal::Refusal;
 pub use scalar::{scalar, Scalar};
-pub use steps::{items, step, step_in, Body, Items};
+pub use steps::{ids_begun, items, step, step_in, Body, Items};
 pub use walk::{walk, walked, Walk};

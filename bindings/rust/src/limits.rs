@@ -6,13 +6,13 @@ use crate::refusal::Refusal;
 use crate::scalar::{self, Scalar};
 use crate::steps::{self, Body, Items};
 use crate::walk::{self, Walk};
-use std::ops::RangeInclusive;
+use std::ops::{Range, RangeInclusive};
 
 /// What a title's maps may have. The functions of this crate read by the usual limits, [`Limits::DEFAULT`]; a title
 /// that sets others calls those that take limits as methods here.
 ///
 /// Any numbers may be put in: with one out of its range every reading is refused with 68, and [`walked`](Self::walked)
-/// is 0.
+/// and [`ids_begun`](Self::ids_begun) are 0.
 ///
 /// ```
 /// use ion_map::{Limits, Part, Refusal};
@@ -59,6 +59,11 @@ impl Limits {
     /// [`items`](crate::items) by these limits.
     pub fn items(self, map: &[u8], part: Part) -> Items<'_> {
         Items::new(self, map, part)
+    }
+
+    /// [`ids_begun`](crate::ids_begun) by these limits; 0 where that of annotations is out of its range.
+    pub fn ids_begun(self, map: &[u8], body: Range<usize>, position: usize) -> u64 {
+        steps::ids_begun_by(self, map, body, position)
     }
 
     /// [`step_in`](crate::step_in) by these limits.

@@ -88,6 +88,14 @@ extern "C" {
         count: *mut u64,
     ) -> u64;
     fn ion_map_walked(map: *const u8, map_len: usize, most: u64, annotations: usize, depth: usize) -> u64;
+    fn ion_map_ids(
+        map: *const u8,
+        map_len: usize,
+        start: usize,
+        end: usize,
+        position: usize,
+        annotations: usize,
+    ) -> u64;
 }
 
 /// The words of a record.
@@ -295,4 +303,16 @@ pub fn steps(
 pub fn walked(map: &[u8], most: u64, annotations: usize, depth: usize) -> u64 {
     // SAFETY: a slice's pointer is never null and has as many bytes as the slice; the function only reads them.
     unsafe { ion_map_walked(map.as_ptr(), map.len(), most, annotations, depth) }
+}
+
+/// How many field IDs the step at `position` in the struct's body `start..end` began to read; 0 where it is refused
+/// with 68 or 50.
+///
+/// ```
+/// assert_eq!(ion_map::raw::ids(&[0x80, 0x00, 0x84, 0x20], 0, 4, 0, 255), 2);
+/// assert_eq!(ion_map::raw::ids(&[0x80, 0x00, 0x84, 0x20], 0, 5, 0, 255), 0);
+/// ```
+pub fn ids(map: &[u8], start: usize, end: usize, position: usize, annotations: usize) -> u64 {
+    // SAFETY: as in `walked`.
+    unsafe { ion_map_ids(map.as_ptr(), map.len(), start, end, position, annotations) }
 }

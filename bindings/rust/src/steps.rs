@@ -7,6 +7,7 @@ use crate::part::{Part, PartKind};
 use crate::raw::{self, Record, RECORD_SIZE};
 use crate::refusal::Refusal;
 use std::iter::FusedIterator;
+use std::ops::Range;
 
 /// How many steps are taken at once. More of them cost more stack, and save no calls in the short bodies that maps
 /// are made of.
@@ -167,6 +168,22 @@ impl std::fmt::Debug for Items<'_> {
             .field("ended", &self.ended)
             .finish_non_exhaustive()
     }
+}
+
+/// How many field IDs the step at `position` in a struct's body began to read: one for each pad that it passes, and one
+/// more unless it ends there, also where that ID or what follows it is refused. 0 where it is refused with 50.
+///
+/// ```
+/// let map = [0xD5, 0x84, 0x00, 0x85, 0x21, 0x07]; // a struct with a pad, and the field 5
+/// assert_eq!(ion_map::ids_begun(&map, 1..6, 1), 2);
+/// assert_eq!(ion_map::ids_begun(&map, 1..6, 6), 0);
+/// ```
+pub fn ids_begun(map: &[u8], body: Range<usize>, position: usize) -> u64 {
+    ids_begun_by(Limits::DEFAULT, map, body, position)
+}
+
+pub(crate) fn ids_begun_by(limits: Limits, map: &[u8], body: Range<usize>, position: usize) -> u64 {
+    raw::ids(map, body.start, body.end, position, limits.annotations)
 }
 
 /// A container's body.

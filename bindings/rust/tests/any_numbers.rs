@@ -62,6 +62,8 @@ fn positions_of_any_size() {
             );
             for position in numbers {
                 let inside = start <= position && position <= end && end <= map.len();
+                let begun = raw::ids(&map, start, end, position, LIMIT);
+                assert_eq!(begun > 0, inside && position < end, "{start}..{end} at {position}");
                 for refusal in refusals(&map, start..end, position) {
                     assert_eq!(refusal == Some(OUTSIDE), !inside, "{start}..{end} at {position}");
                 }
@@ -155,6 +157,7 @@ fn limits_of_any_size() {
                 );
             }
             assert_eq!(limits.items(&map, Part::stream(&map)).count(), 1);
+            assert_eq!(limits.ids_begun(&map, 0..3, 0), !wrong as u64);
 
             let wrong = wrong || !Limits::DEPTH.contains(&depth);
             let walk: Vec<_> = limits.walk(&map).collect();

@@ -1,7 +1,7 @@
 //! A short example of each function, with the maps at the edges.
 
 use ion_map::{
-    annotation, annotations, decimal, int, items, raw, scalar, step, step_in, var_int, var_uint, walk, walked, Body,
+    annotation, annotations, decimal, ids_begun, int, items, raw, scalar, step, step_in, var_int, var_uint, walk, walked, Body,
     Item, Limits, Part, PartKind, Refusal, Scalar, Type,
 };
 use std::error::Error;
@@ -70,6 +70,35 @@ fn steps_through_a_struct() {
     };
     assert_eq!((id, value.span(), value.descriptor()), (5, 3..6, 4));
     assert_eq!(step(&map, body, 6), Ok(Item::End { position: 6 }));
+}
+
+/// The pads, and one more unless the step ended or was refused before any ID.
+#[test]
+fn ids_that_a_step_begins() {
+    let bodies: [(&[u8], u64); 11] = [
+        (&[], 0),
+        (&[0x80, 0x00], 1),
+        (&[0x00], 1),
+        (&[0x80], 1),
+        (&[0x80, 0x01], 1),
+        (&[0x80, 0x20], 1),
+        (&[0x80, 0xF0], 1),
+        (&[0x80, 0x00, 0x81, 0x00], 2),
+        (&[0x80, 0x00, 0x81, 0x20], 2),
+        (&[0x80, 0x00, 0x01], 2),
+        (&[0x80, 0x00, 0x80, 0x0E, 0x82, 0xFF, 0xFF, 0x84, 0x11], 3),
+    ];
+    for (body, ids) in bodies {
+        assert_eq!(ids_begun(body, 0..body.len(), 0), ids, "{body:X?}");
+        assert_eq!(ids_begun(body, 0..body.len() + 1, 0), 0, "{body:X?}");
+        let none = Limits {
+            annotations: 254,
+            ..Limits::DEFAULT
+        };
+        assert_eq!(none.ids_begun(body, 0..body.len(), 0), 0, "{body:X?}");
+    }
+    assert_eq!(ids_begun(&[0x80, 0x00, 0x80, 0x20], 1..4, 0), 0);
+    assert_eq!(ids_begun(&[0x80, 0x00, 0x80, 0x20], 1..4, 2), 1);
 }
 
 #[test]

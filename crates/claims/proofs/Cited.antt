@@ -13,6 +13,7 @@ use Rattle.bodies.proofs.Splitting.{decimals-sound, decimals-complete, empty-de
 use Rattle.stepping.proofs.Soundness.{steps-sound, steps-repeat, refusals-keep}
 use Rattle.stepping.proofs.Completeness.{steps-complete}
 use Rattle.stepping.proofs.Tiling.{runs}
+use Rattle.counting.proofs.Meanings.{ids-sound, no-ids-unread}
 use Rattle.values.proofs.Meanings.{scalars-meant}
 use Rattle.values.proofs.Edges.{edges}
 use Rattle.walking.proofs.Depths.{limits-range}
@@ -55,6 +56,8 @@ equal =
       padsComplete = pads-complete;
       stepsSound = steps-sound;
       stepsComplete = steps-complete;
+      idsSound = ids-sound;
+      noIdsUnread = no-ids-unread;
       scalars = scalars-meant;
       decimalsSound = decimals-sound;
       decimalsComplete = decimals-complete;

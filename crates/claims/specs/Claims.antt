@@ -12,6 +12,7 @@ use Rattle.framing.specs.Meaning.{ValuesSound, ValuesComplete, PadsSound, PadsC
 use Rattle.bodies.specs.Decimal.{DecimalsSound, DecimalsComplete, EmptyDecimals, DecimalsLocal, DecimalsMoved}
 use Rattle.stepping.specs.Meaning.{StepsSound, StepsComplete, StepsRepeat, RefusalsKeep}
 use Rattle.stepping.specs.Theorems.{RunsExist}
+use Rattle.counting.specs.Meaning.{IdsSound, NoIdsUnread}
 use Rattle.values.specs.Meaning.{ScalarsMeant}
 use Rattle.values.specs.Edges.{Edges}
 use Rattle.walking.specs.Theorems.{Exact, NeverOutside, LimitsRange, DepthBound}
@@ -64,6 +65,9 @@ pub record Equal : Type 0 where
   -- steps: the pads skipped, and the item, the end or the refusal behind them
   pub stepsSound : StepsSound
   pub stepsComplete : StepsComplete
+  -- by the change request A.3, "how many IDs that step began to read": one for each pad skipped, where it starts, and one more where what follows them starts
+  pub idsSound : IdsSound
+  pub noIdsUnread : NoIdsUnread
   -- scalars
   pub scalars : ScalarsMeant
   -- decimals, by the change request A.1: "the exponent, negative zero as 0, and the coefficient as an Int's answer. An empty body is zero with exponent 0"; and

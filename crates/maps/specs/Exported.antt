@@ -10,6 +10,7 @@ use Rattle.framing.specs.Answers.{Annotated, readAnnotation}
 use Rattle.stepping.specs.Items.{Item}
 use Rattle.stepping.specs.Answers.{answerAt}
 use Rattle.stepping.specs.Kinds.{rulesOf}
+use Rattle.counting.specs.Counted.{idsBegun}
 use Rattle.values.specs.Scalars.{valueIn}
 use Rattle.records.specs.FirstWords.{Entered, enter, Number, ofUnsigned, ofSigned, ofFixed}
 
@@ -18,6 +19,11 @@ use Rattle.records.specs.FirstWords.{Entered, enter, Number, ofUnsigned, ofSign
 unfoldable pub exportedStep : ℕ → List ℕ → ℕ → ℕ → ℕ → ℕ → Outcome Item
 exportedStep limit s start end position kind =
     limited limit (refuseIf (ltb position start) 50 0 (refuseIf (ltb 2 kind) 50 0 (answerAt limit (rulesOf kind) s position end)))
+
+-- ---- the count of field IDs: by the change request A.3 "how many IDs that step began to read", of a struct step, and 0 where it is refused with 68 or 50
+
+unfoldable pub exportedIds : ℕ → List ℕ → ℕ → ℕ → ℕ → ℕ
+exportedIds limit s start end position = pick (ltb position start) 0 (idsBegun limit s (record { at = position; end = end }))
 
 -- ---- the annotation step: over the bytes start..end
 

@@ -16,9 +16,10 @@ ghost use Rattle.walking.specs.Calls.{itemsIn};
 ghost use Rattle.records.specs.Buffer.{recordIn, returned};
 ghost use Rattle.records.specs.Words.{words, annotationWords, bodyWords, readingWords, numberWords, decimalWords};
 ghost use Rattle.maps.specs.Private.Inside.{ShortAt};
-ghost use Rattle.maps.specs.Exported.{exportedStep, exportedAnnotation, exportedBody, numberBy, exportedNumber};
+ghost use Rattle.maps.specs.Exported.{exportedStep, exportedIds, exportedAnnotation, exportedBody, numberBy, exportedNumber};
 use crate::inside;
 use bodies::decimal::read_decimal;
+use counting::counted::ids_begun;
 use framing::annotations_iterator::read_annotation;
 use framing::binary_buffer::bare_value;
 use framing::binary_buffer::begins_value;
@@ -139,6 +140,23 @@ pub extern "C" fn ion_map_step(
         out,
         item_words(step_by_kind(map, start, end, position, kind, limit)),
     )
+}
+
+// How many field IDs the struct step at `position` in the part start..end began to read; 0 where it is refused with 68 or 50.
+#[no_mangle]
+pub extern "C" fn ion_map_ids(
+    map: &[u8],
+    start: usize,
+    end: usize,
+    position: usize,
+    limit: usize,
+) -> u64
+    ensures { λ r. ⌜ r ≡ exportedIds limit (now (map .entry)) start end position ⌝ }
+{
+    if position < start {
+        return 0;
+    }
+    ids_begun(map, position, end, limit) as u64
 }
 
 // One annotation step over the bytes start..end.

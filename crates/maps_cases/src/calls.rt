@@ -4,6 +4,7 @@ ghost use Prim.Native.Nat.{_<_, _≤_};
 ghost use lib.ListN.{length};
 use maps::exports::ion_map_annotation;
 use maps::exports::ion_map_decimal;
+use maps::exports::ion_map_ids;
 use maps::exports::ion_map_number;
 use maps::exports::ion_map_scalar;
 use maps::exports::ion_map_step;
@@ -46,6 +47,9 @@ fn argument(line: &[u8], n: usize) -> usize {
 // Which word has the buffer's length, and 0 where the function takes no buffer.
 fn size_word(asked: &[u8]) -> usize {
     if check::same(asked, b"walked") {
+        return 0;
+    }
+    if check::same(asked, b"ids") {
         return 0;
     }
     if check::same(asked, b"decimal") {
@@ -158,6 +162,15 @@ fn called(line: &[u8], map: &[u8], out: &mut [u8]) -> Line {
             most as u64,
             number_or(line, 3, ANNOTATION_LIMIT),
             number_or(line, 4, DEPTH_LIMIT),
+        ));
+    }
+    if check::same(asked, b"ids") {
+        return Line::new().number(ion_map_ids(
+            map,
+            start,
+            end,
+            position,
+            number_or(line, 5, ANNOTATION_LIMIT),
         ));
     }
     Line::new().word(b"no such function")

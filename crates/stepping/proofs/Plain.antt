@@ -52,7 +52,7 @@ nextIn (gives u) = u .next
 nextIn (refuses n p) = 0
 
 -- a value without a wrapper begins no marker, also where its name is empty
-unmarked : (rules : Rules) (s : List ℕ) (at end : ℕ) (u : Unsigned) → nameAt rules s at end ≡ gives u → getD s (u .next) 0 < 224 → isMarker rules (getD s at 0) ≡ false
+pub unmarked : (rules : Rules) (s : List ℕ) (at end : ℕ) (u : Unsigned) → nameAt rules s at end ≡ gives u → getD s (u .next) 0 < 224 → isMarker rules (getD s at 0) ≡ false
 unmarked Stream s at end u name h =
     let e : at ≡ u .next = ap nextIn name in
     let n : getD s at 0 < 224 = rw e h in
@@ -72,7 +72,7 @@ module _ (limit : ℕ) (rules : Rules) (s : List ℕ) (at end : ℕ) (g : outOfR
       sym (answer-is limit rules s at end (gives i) (stop (gives i)) g (omega arith) m (answered limit rules s at end (gives i) l tile) refl)
 
   -- only a struct's name is refused
-  refused-unmarked : (r : Rules) {number position : ℕ} → nameAt r s at end ≡ refuses number position → isMarker r (getD s at 0) ≡ false
+  pub refused-unmarked : (r : Rules) {number position : ℕ} → nameAt r s at end ≡ refuses number position → isMarker r (getD s at 0) ≡ false
   refused-unmarked Stream e = absurd (let z : _≡_ {A = ℕ} 0 1 = cc in omega arith)
   refused-unmarked Sequence e = refl
   refused-unmarked Fields e = refl

@@ -14,6 +14,8 @@ mod maps;
 #[allow(dead_code)]
 mod ours;
 #[allow(dead_code)]
+mod pads;
+#[allow(dead_code)]
 mod question;
 #[allow(dead_code)]
 mod session;

@@ -105,6 +105,7 @@ pub fn ask_at<R: Reader>(session: &mut Session<R>, map: &[u8], part: Part) {
     for rules in [STREAM, SEQUENCE, STRUCT] {
         session.ask(map, Ask::Run(rules), part);
     }
+    session.ask(map, Ask::Ids, part);
     session.ask(map, Ask::Scalar, part);
     session.ask(map, Ask::StepIn, part);
     session.ask(map, Ask::Annotations, part);
@@ -594,7 +595,7 @@ fn any_ask(random: &mut Random) -> Ask {
     match random.below(17) {
         0..=3 => Ask::Run(rules),
         4 | 5 => Ask::Batch(rules, random.from_to(RECORD, MOST_ROOM)),
-        6 => Ask::Annotations,
+        6 => random.pick(&[Ask::Annotations, Ask::Ids]),
         7 | 8 => Ask::StepIn,
         9 | 10 => Ask::Scalar,
         11 | 12 => Ask::Number(rules, int_size(random)),

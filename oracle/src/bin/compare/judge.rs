@@ -2,9 +2,10 @@
 
 use crate::expected::{is_over_limit, may_stand, Expected};
 use crate::ours::{Part, Reader, Record, RECORD};
-use crate::question::{Ask, Entry, Question, INT, KINDS, VAR_UINT};
+use crate::pads::Pads;
+use crate::question::{Ask, Entry, Question, INT, KINDS, STRUCT, VAR_UINT};
 use crate::walking::Walk;
-use oracle::asking::{self, Annotations, Asked, Line, Refusal, Rules};
+use oracle::asking::{self, Annotations, Asked, Item, Line, Refusal, Rules};
 use oracle::lazy::expanded::EncodingContext;
 use oracle::requests::{self, Request, Steps, REQUESTS};
 use std::ops::RangeInclusive;
@@ -201,6 +202,9 @@ impl<'a, R: Reader> Bench<'a, R> {
             // The part of a walk is cut out by the harness, so it is inside, and so are the limits.
             Ask::Walk if question.is_out_of_range() => true,
             Ask::Walked(most) if question.is_out_of_range() => self.count_is(part, most, 0..=0),
+            Ask::Ids if question.is_out_of_range() || question.is_outside(self.map) => {
+                self.ids_are(part, 0)
+            }
             _ if question.is_out_of_range() => self.refused(question, 68),
             Ask::Walk | Ask::Walked(_) if question.is_outside(self.map) => true,
             _ if question.is_outside(self.map) => self.refused(question, 50),
@@ -214,6 +218,7 @@ impl<'a, R: Reader> Bench<'a, R> {
             Ask::Decimal => return self.decimal(part),
             Ask::Walk => self.walk(part),
             Ask::Walked(most) => self.walked(part, most),
+            Ask::Ids => self.ids(part),
         };
         self.verdict_of(fine)
     }
@@ -518,6 +523,27 @@ impl<'a, R: Reader> Bench<'a, R> {
         fine
     }
 
+    /// The pads before what the Rust hands out or refuses, and one more unless it says end.
+    fn ids(&mut self, part: Part) -> bool {
+        let pads = Pads::of(self.map, part, STRUCT);
+        let passed = pads.ends.len() as u64;
+        let item = asking::Steps::new(&self.asked(part), Rules::Struct).next();
+        let (is_there, wanted) = match item {
+            Item::End(position) => (pads.place() == position, passed),
+            Item::Field(_, spans) => (pads.place() == spans.start, passed + 1),
+            _ => (pads.place() < part.end, passed + 1),
+        };
+        self.ids_are(part, wanted) && is_there
+    }
+
+    fn ids_are(&mut self, part: Part, wanted: u64) -> bool {
+        let ours = self.reader.ids(self.map, part);
+        let fine = ours == wanted;
+        self.desk
+            .note(fine, || wanted.to_string(), || ours.to_string());
+        fine
+    }
+
     // ===== What the caller does wrong: the harness knows the answer =====
 
     fn refused(&mut self, question: &Question, number: u32) -> bool {
@@ -532,7 +558,9 @@ impl<'a, R: Reader> Bench<'a, R> {
             Ask::Scalar => (Entry::Scalar, 0, 0),
             Ask::Number(form, size) => (Entry::Number, form, size),
             Ask::Decimal => (Entry::Decimal, 0, 0),
-            Ask::Walk | Ask::Walked(_) | Ask::Short(..) => unreachable!("asked elsewhere"),
+            Ask::Walk | Ask::Walked(_) | Ask::Ids | Ask::Short(..) => {
+                unreachable!("asked elsewhere")
+            }
         };
         let room = room_for(part);
         let returned = self.call(entry, part, kind, size, room, &mut count);

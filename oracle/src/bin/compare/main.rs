@@ -10,6 +10,7 @@ mod judge;
 #[path = "../generate/maps.rs"]
 mod maps;
 mod ours;
+mod pads;
 mod question;
 mod session;
 mod shrink;

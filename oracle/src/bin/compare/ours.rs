@@ -88,6 +88,14 @@ mod exported {
             annotations: usize,
             depth: usize,
         ) -> u64;
+        pub fn ion_map_ids(
+            map: *const u8,
+            length: usize,
+            start: usize,
+            end: usize,
+            position: usize,
+            annotations: usize,
+        ) -> u64;
     }
 }
 
@@ -182,6 +190,7 @@ pub trait Reader {
     /// The body is the part from its position on.
     fn decimal(&self, map: &[u8], part: Part, out: &mut [u8]) -> u64;
     fn walked(&self, map: &[u8], most: u64, limits: Limits) -> u64;
+    fn ids(&self, map: &[u8], part: Part) -> u64;
 
     /// The cursor for the next call: past an item, at the end, and after a refusal the one given.
     fn cursor(&self, _map: &[u8], part: Part, _kind: u64, record: Record) -> usize {
@@ -306,5 +315,18 @@ impl Reader for Exports {
     fn walked(&self, map: &[u8], most: u64, limits: Limits) -> u64 {
         let Limits { annotations, depth } = limits;
         unsafe { exported::ion_map_walked(map.as_ptr(), map.len(), most, annotations, depth) }
+    }
+
+    fn ids(&self, map: &[u8], part: Part) -> u64 {
+        unsafe {
+            exported::ion_map_ids(
+                map.as_ptr(),
+                map.len(),
+                part.start,
+                part.end,
+                part.position,
+                part.limits.annotations,
+            )
+        }
     }
 }

@@ -55,6 +55,8 @@ pub enum Ask {
     Walk,
     /// How many items the walk of the part hands out in so many calls.
     Walked(u64),
+    /// How many field IDs the struct step begins to read.
+    Ids,
     /// An entry with a buffer of so many bytes, fewer than a record has.
     Short(Entry, usize),
 }
@@ -66,7 +68,7 @@ pub struct Question {
 }
 
 /// What is counted apart, in the order of the report.
-pub const KINDS: [&str; 16] = [
+pub const KINDS: [&str; 17] = [
     "runs of stream steps",
     "runs of sequence steps",
     "runs of struct steps",
@@ -83,6 +85,7 @@ pub const KINDS: [&str; 16] = [
     "parts outside (50)",
     "short buffers (51)",
     "limits out of range (68)",
+    "field IDs begun, by the pads counted",
 ];
 
 impl Question {
@@ -105,6 +108,7 @@ impl Question {
             Ask::Decimal => 10,
             Ask::Walk => 11,
             Ask::Walked(_) => 12,
+            Ask::Ids => 16,
         }
     }
 
@@ -120,6 +124,7 @@ impl Question {
             Ask::Decimal | Ask::Short(Entry::Decimal, _) => &["ion_map_decimal"],
             Ask::Walk => &["ion_map_step", "ion_map_step_in"],
             Ask::Walked(_) => &["ion_map_walked"],
+            Ask::Ids => &["ion_map_ids"],
             Ask::Short(Entry::Steps, _) => &["ion_map_steps"],
         }
     }
@@ -195,6 +200,7 @@ impl fmt::Display for Ask {
             Ask::Decimal => write!(f, "decimal"),
             Ask::Walk => write!(f, "walk"),
             Ask::Walked(most) => write!(f, "items of {most} calls of the walk"),
+            Ask::Ids => write!(f, "field IDs begun"),
             Ask::Short(entry, room) => write!(f, "{entry:?} into {room} bytes"),
         }
     }

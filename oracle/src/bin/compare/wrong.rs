@@ -126,6 +126,12 @@ mistakes! {
     Depth33 "walks to depth 33"
     EndCounted "counts the walk's end as an item"
     VersionCounted "counts a marker that isn't 1.0 and what is behind it"
+    // Field IDs.
+    IdAtTheEnd "counts one more ID where the step ends"
+    CutIdUncounted "doesn't count an ID that can't be read"
+    PadsTwice "counts the ID of each pad twice"
+    PadsAlone "counts the pads alone"
+    IdsBeforeStart "counts IDs before the part's start"
     // The limits.
     LimitOf255 "tests 255 bytes of annotations by whichever limit"
     LimitOf254 "takes 254 as a limit of annotations"
@@ -779,6 +785,25 @@ impl Reader for Wrong {
             }
             Mistake::EndCounted if count < most => count + 1,
             _ => count,
+        }
+    }
+
+    fn ids(&self, map: &[u8], part: Part) -> u64 {
+        let part = match self.mistake {
+            Mistake::IdsBeforeStart => Part { start: 0, ..part },
+            _ => self.limited(part),
+        };
+        let ids = Exports.ids(map, part);
+        let mut record = [0; RECORD];
+        let returned = Exports.step(map, part, STRUCT, &mut record);
+        let more = (Record::read(&record).kind() != 0) as u64;
+        match (self.mistake, returned) {
+            (_, 50 | 68) => ids,
+            (Mistake::IdAtTheEnd, 0) if more == 0 => ids + 1,
+            (Mistake::CutIdUncounted, 3 | 7 | 20) => ids - 1,
+            (Mistake::PadsTwice, _) => 2 * ids - more,
+            (Mistake::PadsAlone, _) => ids - more,
+            _ => ids,
         }
     }
 

@@ -1,0 +1,4 @@
+pub mod Pads
+pub mod Counted
+pub mod Read
+pub mod Meaning

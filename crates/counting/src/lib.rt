@@ -1,0 +1,3 @@
+// Steps that count what they pass on the way to their answer.
+pub mod counted;
+mod pads;
