@@ -223,6 +223,52 @@ static void check_limits(void)
     }
 }
 
+static void check_symbols(void)
+{
+    static const uint8_t names[] = {
+        0xEE, 0x8E, 0x81, 0x83,             /*  0: a wrapper with the annotation 3, */
+        0xDB, 0x87, 0xB9,                   /*  4: in it a struct whose field 7 is a list */
+        0x84, 't', 'r', 'e', 'e',           /*  7: with the text of ID 10, */
+        0x20, 0x81, 0xFF, 0x80,             /* 12: no text for 11, a bad one for 12 and an empty one for 13 */
+        0x71, 0x0A                          /* 16: the symbol 10 */
+    };
+    static const uint8_t imports[] = {0xE5, 0x81, 0x83, 0xD2, 0x86, 0x20};
+    static const uint8_t system[] = ION_MAP_SYSTEM_TEXT; /* and a zero, which isn't lent */
+    static const words tree = {ION_MAP_KIND_TEXT, ION_MAP_TEXT_OF_MAP, 0, 0, 0, 8, 12, 10, 4};
+    static const words name = {ION_MAP_KIND_TEXT, ION_MAP_TEXT_OF_SYSTEM, 0, 0, 0, 29, 33, 4, 4};
+    static const words none = {ION_MAP_KIND_TEXT, ION_MAP_TEXT_UNKNOWN, 0, 0, 0, 0, 0, 11, 0};
+    static const words list = {ION_MAP_KIND_SYMBOLS, 1, 0, 0, 0, 7, 16, 0, 9};
+    static const words no_list = {ION_MAP_KIND_SYMBOLS, 0, 0, 0, 0, 0, 0, 0, 0};
+    static const words bad = {ION_MAP_KIND_REFUSED, ION_MAP_REFUSAL_BAD_UTF8, 13, 0, 0, 0, 0, 0, 0};
+    enum { SIZE = sizeof names, NINE = ION_MAP_SYSTEM_TEXT_SIZE };
+
+    check("the system text's size", sizeof system - 1, NINE);
+    check("text", ion_map_text(names, SIZE, system, NINE, 0, SIZE, 16, 10, LIMIT, record, sizeof record), 0);
+    check_words("text", record, tree);
+    check("system text", ion_map_text(names, SIZE, system, NINE, 0, SIZE, 16, 4, LIMIT, record, sizeof record), 0);
+    check("its bytes", memcmp(system + ion_map_word(record, ION_MAP_TEXT_START), "name", 4) != 0, 0);
+    check_words("system text", record, name);
+    check("unknown", ion_map_text(names, SIZE, system, NINE, 0, SIZE, SIZE, 11, LIMIT, record, sizeof record), 0);
+    check_words("unknown", record, none);
+    check("at the table", ion_map_text(names, SIZE, system, NINE, 0, SIZE, 0, 11, LIMIT, record, sizeof record), 0);
+    check_words("at the table", record, none);
+    check("bad text", ion_map_text(names, SIZE, system, NINE, 0, SIZE, 16, 12, LIMIT, record, sizeof record), 36);
+    check_words("bad text", record, bad);
+    check("inside an item", ion_map_text(names, SIZE, system, NINE, 0, SIZE, 5, 1, LIMIT, record, sizeof record), 50);
+    check("imports", ion_map_text(imports, 6, system, NINE, 0, 6, 6, 1, LIMIT, record, sizeof record), 64);
+    check("another text", ion_map_text(names, SIZE, system, NINE + 1, 9, 0, 0, 1, 0, record, sizeof record), 66);
+    check("wrong limit", ion_map_text(names, SIZE, system, NINE, 9, 0, 0, 1, 0, record, sizeof record), 68);
+    check("no record", ion_map_text(names, SIZE, system, 0, 0, 0, 0, 1, 0, record, sizeof record - 1), 51);
+    check("symbols", ion_map_symbols(names, SIZE, system, NINE, 0, SIZE, 16, LIMIT, record, sizeof record), 0);
+    check_words("symbols", record, list);
+    check("no symbols", ion_map_symbols(names, SIZE, system, NINE, 0, SIZE, 0, LIMIT, record, sizeof record), 0);
+    check_words("no symbols", record, no_list);
+    check("by list", ion_map_symbol_text(names, SIZE, system, NINE, 7, 16, 10, LIMIT, record, sizeof record), 0);
+    check_words("by list", record, tree);
+    check("by no list", ion_map_symbol_text(names, SIZE, system, NINE, 0, 0, 11, LIMIT, record, sizeof record), 0);
+    check_words("by no list", record, none);
+}
+
 int main(void)
 {
     check_step();
@@ -233,6 +279,7 @@ int main(void)
     check_decimal();
     check_many();
     check_limits();
+    check_symbols();
     printf("%d checks, %d differ\n", checks, differing);
     return differing != 0;
 }

@@ -368,4 +368,77 @@ uint64_t ion_map_decimal(const uint8_t *map, size_t map_len, size_t start, size_
 
 /* ======================================= End of part 2 ======================================= */
 
+/* ======================================= Part 3: texts of symbols ======================================= */
+
+/* The texts of the IDs 1 to 9, joined: the argument `system`, 84 bytes. A symbol table of the map gives the texts of
+   IDs from 10 up. */
+#define ION_MAP_SYSTEM_TEXT \
+    "$ion" "$ion_1_0" "$ion_symbol_table" "name" "version" "imports" "symbols" "max_id" "$ion_shared_symbol_table"
+
+enum {
+    ION_MAP_SYSTEM_TEXT_SIZE = 84,
+    ION_MAP_FIRST_OWN_ID = 10
+};
+
+/* Kinds of the records of part 3, beside ION_MAP_KIND_REFUSED. Word 8 is the text's or the list's length. */
+enum {
+    ION_MAP_KIND_TEXT = 13,
+    ION_MAP_KIND_SYMBOLS = 19
+};
+
+/* Words of a text; words 2, 3 and 4 are 0. */
+enum {
+    ION_MAP_TEXT_WHERE = 1, /* where it lies, ION_MAP_TEXT_... */
+    ION_MAP_TEXT_START = 5, /* the text there, UTF-8 without a final zero; both are 0 where it is unknown */
+    ION_MAP_TEXT_END = 6,
+    ION_MAP_TEXT_ID = 7     /* the ID that was asked for */
+};
+
+/* Word 1 of a text. */
+enum {
+    ION_MAP_TEXT_UNKNOWN = 0, /* nowhere: ID 0, an ID past the table, or an entry that is no string or null */
+    ION_MAP_TEXT_OF_MAP = 1,
+    ION_MAP_TEXT_OF_SYSTEM = 2
+};
+
+/* Words of the list of symbols that rules; words 2, 3, 4 and 7 are 0. */
+enum {
+    ION_MAP_SYMBOLS_LISTED = 1, /* 1 where a list rules, else 0 */
+    ION_MAP_SYMBOLS_START = 5,  /* its body; both are 0 where none rules */
+    ION_MAP_SYMBOLS_END = 6
+};
+
+/* Refusals that only the functions of part 3 give, beside those of parts 1 and 2. */
+enum {
+    ION_MAP_REFUSAL_HAS_IMPORTS = 64,         /* a symbol table with a field 6 - its field ID */
+    ION_MAP_REFUSAL_SECOND_SYMBOLS = 65,      /* a symbol table with a second field 7 - its field ID */
+    ION_MAP_REFUSAL_NOT_THE_SYSTEM_TEXT = 66  /* another `system` than the nine texts, after 51 and before 68 - 0 */
+};
+
+#ifdef __cplusplus
+extern "C" {
+#endif
+
+/* The text of a symbol's ID at a place of the stream start..end. The place is where one of the stream's items begins
+   (word START of its record) or the stream's end; any other is refused with 50. Of the tables and markers before it
+   the last one rules. The text is a part of the map or of `system`. Steps that are refused on the way refuse the
+   lookup. Record kinds: TEXT, REFUSED. */
+uint64_t ion_map_text(const uint8_t *map, size_t map_len, const uint8_t *system, size_t system_len, size_t start,
+                      size_t end, size_t place, size_t id, size_t annotations, uint8_t *out, size_t out_len);
+
+/* The same in two stages, for many IDs at one place: the list of the table that rules there is found once (record
+   kinds: SYMBOLS, REFUSED), and each ID is then looked up with the list's body, words START and END of that record,
+   as start..end (record kinds: TEXT, REFUSED). Where ion_map_symbols refuses so does ion_map_text; otherwise the
+   record of the second is that of ion_map_text. */
+uint64_t ion_map_symbols(const uint8_t *map, size_t map_len, const uint8_t *system, size_t system_len, size_t start,
+                         size_t end, size_t place, size_t annotations, uint8_t *out, size_t out_len);
+uint64_t ion_map_symbol_text(const uint8_t *map, size_t map_len, const uint8_t *system, size_t system_len, size_t start,
+                             size_t end, size_t id, size_t annotations, uint8_t *out, size_t out_len);
+
+#ifdef __cplusplus
+}
+#endif
+
+/* ======================================= End of part 3 ======================================= */
+
 #endif

@@ -79,7 +79,7 @@ fn main() {
 }
 
 /// The functions that the comparison calls.
-const EXPORTS: [&str; 9] = [
+const EXPORTS: [&str; 12] = [
     "ion_map_step",
     "ion_map_steps",
     "ion_map_annotation",
@@ -89,6 +89,9 @@ const EXPORTS: [&str; 9] = [
     "ion_map_decimal",
     "ion_map_walked",
     "ion_map_ids",
+    "ion_map_text",
+    "ion_map_symbols",
+    "ion_map_symbol_text",
 ];
 
 /// Links a program with our reader, and the fuzzer's with libFuzzer.

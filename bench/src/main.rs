@@ -2,6 +2,7 @@
 
 mod maps;
 mod readers;
+mod texts;
 
 use readers::{Met, Reader, Room, ALL};
 use std::hint::black_box;
@@ -239,6 +240,9 @@ fn once(kind: &str, reader: &str) {
 
 fn main() {
     let mut arguments: Vec<String> = std::env::args().skip(1).collect();
+    if arguments == ["--texts"] {
+        return texts::print(15);
+    }
     if let [flag, kind, reader] = &arguments[..] {
         assert!(flag == "--once", "usage: bench/run --once MAP READER");
         return once(kind, reader);
@@ -258,6 +262,7 @@ fn main() {
     kinds(16 * MEGABYTE, rounds, &mut noise);
     if !short {
         grow_all(rounds, &mut noise);
+        texts::print(rounds);
     }
     noise.print();
 }

@@ -21,6 +21,7 @@ sys.dont_write_bytecode = True
 sys.path.insert(0, str(FOLDER.parent / "mapspans_cases"))
 
 import derive as steps  # noqa: E402
+import derive_symbols  # noqa: E402
 from derive import Refused, refuse_if, var_uint  # noqa: E402
 
 FILL = 0xAA
@@ -30,6 +31,7 @@ RECORD_SIZE = RECORD_WORDS * WORD_SIZE
 STEPS = [steps.step_stream, steps.step_sequence, steps.step_struct]
 FIELDS = 2
 END, MARKER, VALUE, FIELD, _, ANNOTATION, BODY, SCALAR, NUMBER, REFUSED, SPLIT = range(11)
+TEXT, SYMBOLS = 13, 19
 NULL, BOOL, INT, FLOAT, DECIMAL, TIMESTAMP, SYMBOL, STRING, CLOB, BLOB, CONTAINER = range(11)
 
 # Refusals that each function can answer with; data/ is to have each of them.
@@ -45,11 +47,14 @@ REFUSALS = {
     "decimal": {4, 20, 50, 51},
     "walked": set(),
     "ids": set(),
+    "text": STEPPING | {36, 64, 65, 66},
+    "symbols": STEPPING | {64, 65, 66},
+    "symbol_text": (STEPPING | {36, 66}) - {2, 7, 21, 60},
 }
 
 # How many numbers a question has before its limits.
 NUMBERS = {"step": 5, "steps": 5, "annotation": 4, "step_in": 4, "scalar": 4, "number": 6, "decimal": 3}
-NUMBERS |= {"walked": 1, "ids": 3}
+NUMBERS |= {"walked": 1, "ids": 3, "text": 5, "symbols": 4, "symbol_text": 4}
 
 # ===== The records' words =====
 
@@ -191,6 +196,25 @@ def decimal(data, start, end, limits):
     return record(SPLIT, first // 128, start, first % 128, int(negative and exponent > 0), min(after + 1, end), end, exponent)
 
 
+def text_record(number, found):
+    where, start, end = found
+    return record(TEXT, where, 0, 0, 0, start, end, number, length=end - start)
+
+
+def text(data, start, end, place, number, limits, lent):
+    return text_record(number, derive_symbols.text(data, start, end, place, number, limits, lent))
+
+
+def symbol_text(data, start, end, number, limits, lent):
+    return text_record(number, derive_symbols.symbol_text(data, start, end, number, limits, lent))
+
+
+def symbols(data, start, end, place, limits, lent):
+    found = derive_symbols.symbols(data, start, end, place, limits, lent)
+    first, past = found or (0, 0)
+    return record(SYMBOLS, int(found is not None), 0, 0, 0, first, past, length=past - first)
+
+
 def walked(data, most, limits):
     return min(most, len(steps.walk(data, 0, len(data), limits)) - 1)
 
@@ -226,6 +250,7 @@ def ids(data, start, end, position, limits):
 COUNTS = {"walked": walked, "ids": ids}
 
 SINGLE = {"step": step, "annotation": annotation, "step_in": step_in, "scalar": scalar, "number": number, "decimal": decimal}
+OF_SYMBOLS = {"text": text, "symbols": symbols, "symbol_text": symbol_text}
 
 
 def called(function, data, *arguments):
@@ -282,7 +307,19 @@ def parsed(question):
     return name, b"" if data == "-" else bytes.fromhex(data), limits, numbers[: NUMBERS[name]]
 
 
+def symbols_answer(question):
+    """Of a function on symbols, whose question may have the lent system text behind the limit; without it that is the nine texts."""
+    name, data, *words = question.split(" ")
+    count = NUMBERS[name]
+    lent = bytes.fromhex(words[count + 1].replace("-", "")) if len(words) > count + 1 else derive_symbols.SYSTEM
+    _, data, limits, (*rest, size) = parsed(" ".join([name, data, *words[: count + 1]]))
+    records = [called(OF_SYMBOLS[name], data, *rest, limits, lent)] if size >= RECORD_SIZE else []
+    return " ".join([str(returned(records)), *shown(records, size)])
+
+
 def answer(question):
+    if question.split(" ")[0] in OF_SYMBOLS:
+        return symbols_answer(question)
     name, data, limits, numbers = parsed(question)
     if name in COUNTS:
         return str(COUNTS[name](data, *numbers, limits))
@@ -354,7 +391,9 @@ def told_decimal(data, words):
 
 
 def asked(question):
-    """The oracle's question and what it is to answer; nothing where 50 or 51 is answered, of IDs or with other limits, which ion-rust hasn't got."""
+    """The oracle's question and what it is to answer; nothing of IDs and symbols, where 50 or 51 is answered, or with other limits, which ion-rust hasn't got."""
+    if question.split(" ")[0] in OF_SYMBOLS:
+        return None
     name, data, limits, numbers = parsed(question)
     if limits != steps.SCOPE or name == "ids":
         return None

@@ -13,6 +13,7 @@ pub mod raw;
 mod refusal;
 mod scalar;
 mod steps;
+mod symbols;
 mod walk;
 
 pub use annotations::{annotation, annotations, Annotation, Annotations};
@@ -24,4 +25,5 @@ pub use part::{Part, PartKind};
 pub use refusal::Refusal;
 pub use scalar::{scalar, Scalar};
 pub use steps::{ids_begun, items, step, step_in, Body, Items};
+pub use symbols::{symbol_text, Symbols, SYSTEM_TEXT};
 pub use walk::{walk, walked, Walk};

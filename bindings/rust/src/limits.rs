@@ -5,6 +5,7 @@ use crate::part::Part;
 use crate::refusal::Refusal;
 use crate::scalar::{self, Scalar};
 use crate::steps::{self, Body, Items};
+use crate::symbols::{self, Symbols};
 use crate::walk::{self, Walk};
 use std::ops::{Range, RangeInclusive};
 
@@ -91,6 +92,16 @@ impl Limits {
     /// ```
     pub fn walk(self, map: &[u8]) -> Walk<'_> {
         Walk::new(self, map)
+    }
+
+    /// [`Symbols::at`] by these limits.
+    pub fn symbols(self, map: &[u8], place: usize) -> Result<Symbols<'_>, Refusal> {
+        Symbols::at_by(self, map, place)
+    }
+
+    /// [`symbol_text`](crate::symbol_text) by these limits.
+    pub fn symbol_text(self, map: &[u8], place: usize, id: u64) -> Result<Option<&str>, Refusal> {
+        symbols::symbol_text_by(self, map, place, id)
     }
 
     /// [`walked`](crate::walked) by these limits; 0 where one is out of its range.

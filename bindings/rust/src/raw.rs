@@ -87,6 +87,43 @@ extern "C" {
         out_len: usize,
         count: *mut u64,
     ) -> u64;
+    fn ion_map_text(
+        map: *const u8,
+        map_len: usize,
+        system: *const u8,
+        system_len: usize,
+        start: usize,
+        end: usize,
+        place: usize,
+        id: usize,
+        annotations: usize,
+        out: *mut u8,
+        out_len: usize,
+    ) -> u64;
+    fn ion_map_symbols(
+        map: *const u8,
+        map_len: usize,
+        system: *const u8,
+        system_len: usize,
+        start: usize,
+        end: usize,
+        place: usize,
+        annotations: usize,
+        out: *mut u8,
+        out_len: usize,
+    ) -> u64;
+    fn ion_map_symbol_text(
+        map: *const u8,
+        map_len: usize,
+        system: *const u8,
+        system_len: usize,
+        start: usize,
+        end: usize,
+        id: usize,
+        annotations: usize,
+        out: *mut u8,
+        out_len: usize,
+    ) -> u64;
     fn ion_map_walked(map: *const u8, map_len: usize, most: u64, annotations: usize, depth: usize) -> u64;
     fn ion_map_ids(
         map: *const u8,
@@ -315,4 +352,118 @@ pub fn walked(map: &[u8], most: u64, annotations: usize, depth: usize) -> u64 {
 pub fn ids(map: &[u8], start: usize, end: usize, position: usize, annotations: usize) -> u64 {
     // SAFETY: as in `walked`.
     unsafe { ion_map_ids(map.as_ptr(), map.len(), start, end, position, annotations) }
+}
+
+/// The text of `id` at `place` of the stream `start..end`; `system` is the nine texts of the system, joined.
+///
+/// ```
+/// use ion_map::{raw, SYSTEM_TEXT};
+///
+/// let mut record = [0; raw::RECORD_SIZE];
+/// let map = [0xE7, 0x81, 0x83, 0xD4, 0x87, 0xB2, 0x81, 0x61]; // a symbol table with the text "a"
+/// let system = SYSTEM_TEXT.as_bytes();
+/// assert_eq!(raw::text(&map, system, 0, 8, 8, 10, 255, &mut record), 0);
+/// assert_eq!(raw::words(&record), [13, 1, 0, 0, 0, 7, 8, 10, 1]);
+/// assert_eq!(raw::text(&map, system, 0, 8, 8, 4, 255, &mut record), 0);
+/// assert_eq!(raw::words(&record), [13, 2, 0, 0, 0, 29, 33, 4, 4]);
+/// assert_eq!(raw::text(&map, b"", 0, 8, 8, 4, 255, &mut record), 66);
+/// ```
+#[allow(clippy::too_many_arguments)] // as many as the function has
+pub fn text(
+    map: &[u8],
+    system: &[u8],
+    start: usize,
+    end: usize,
+    place: usize,
+    id: usize,
+    annotations: usize,
+    out: &mut [u8],
+) -> u64 {
+    // SAFETY: as in `step`, of two slices that are read.
+    unsafe {
+        ion_map_text(
+            map.as_ptr(),
+            map.len(),
+            system.as_ptr(),
+            system.len(),
+            start,
+            end,
+            place,
+            id,
+            annotations,
+            out.as_mut_ptr(),
+            out.len(),
+        )
+    }
+}
+
+/// The list of the symbol table that rules at `place` of the stream `start..end`.
+///
+/// ```
+/// use ion_map::{raw, SYSTEM_TEXT};
+///
+/// let mut record = [0; raw::RECORD_SIZE];
+/// let map = [0xE7, 0x81, 0x83, 0xD4, 0x87, 0xB2, 0x81, 0x61];
+/// assert_eq!(raw::symbols(&map, SYSTEM_TEXT.as_bytes(), 0, 8, 8, 255, &mut record), 0);
+/// assert_eq!(raw::words(&record), [19, 1, 0, 0, 0, 6, 8, 0, 2]);
+/// ```
+pub fn symbols(
+    map: &[u8],
+    system: &[u8],
+    start: usize,
+    end: usize,
+    place: usize,
+    annotations: usize,
+    out: &mut [u8],
+) -> u64 {
+    // SAFETY: as in `text`.
+    unsafe {
+        ion_map_symbols(
+            map.as_ptr(),
+            map.len(),
+            system.as_ptr(),
+            system.len(),
+            start,
+            end,
+            place,
+            annotations,
+            out.as_mut_ptr(),
+            out.len(),
+        )
+    }
+}
+
+/// The text of `id` under the symbol table whose list has the body `start..end`.
+///
+/// ```
+/// use ion_map::{raw, SYSTEM_TEXT};
+///
+/// let mut record = [0; raw::RECORD_SIZE];
+/// assert_eq!(raw::symbol_text(&[0x81, 0x61], SYSTEM_TEXT.as_bytes(), 0, 2, 10, 255, &mut record), 0);
+/// assert_eq!(raw::words(&record), [13, 1, 0, 0, 0, 1, 2, 10, 1]);
+/// ```
+pub fn symbol_text(
+    map: &[u8],
+    system: &[u8],
+    start: usize,
+    end: usize,
+    id: usize,
+    annotations: usize,
+    out: &mut [u8],
+) -> u64 {
+    // SAFETY: as in `text`.
+    unsafe {
+        ion_map_symbol_text(
+            map.as_ptr(),
+            map.len(),
+            system.as_ptr(),
+            system.len(),
+            start,
+            end,
+            id,
+            annotations,
+            out.as_mut_ptr(),
+            out.len(),
+        )
+    }
 }

@@ -71,11 +71,14 @@ refusals! {
     BAD_UTF8 = 36, "bad UTF-8";
     TOO_DEEP = 37, "a container too deep for the walk";
     NOT_VERSION_1_0 = 60, "a marker that isn't 1.0";
+    HAS_IMPORTS = 64, "a symbol table with imports";
+    SECOND_SYMBOLS = 65, "a symbol table with a second list of symbols";
 
     OUTSIDE = 50, "a part or a position outside the map or out of order";
     RECORD_TOO_SHORT = 51, "a buffer shorter than a record";
     NOT_A_CONTAINER = 52, "stepping into what isn't a container or is null";
     INPUT_TOO_LONG = 54, "more input than is taken";
+    NOT_THE_SYSTEM_TEXT = 66, "another system text than the nine joined";
     LIMIT_OUT_OF_RANGE = 68, "a limit outside its range";
 
     UNKNOWN_ANSWER = u64::MAX, "an answer that this crate doesn't know: the archive is another one than it was made for";

@@ -4,8 +4,8 @@ mod common;
 
 use common::short;
 use ion_map::{
-    annotation, annotations, decimal, int, items, raw, scalar, step, step_in, var_int, var_uint, walk, walked, Limits,
-    Part, PartKind, Refusal,
+    annotation, annotations, decimal, int, items, raw, scalar, step, step_in, symbol_text, var_int, var_uint, walk,
+    walked, Limits, Part, PartKind, Refusal, Symbols, SYSTEM_TEXT,
 };
 use raw::RECORD_SIZE;
 use std::ops::Range;
@@ -81,6 +81,27 @@ fn the_largest_positions_are_refused_with_50() {
                 .iter()
                 .all(|refusal| *refusal == Some(OUTSIDE)));
         }
+    }
+}
+
+#[test]
+fn symbols_at_places_of_any_size() {
+    let map = [0xE7, 0x81, 0x83, 0xD4, 0x87, 0xB2, 0x81, 0x61, 0x00, 0x20];
+    for place in [0, 8, 9, 10, 11, 1 << 32, usize::MAX] {
+        let given = [0, 9, 10].contains(&place);
+        assert_eq!(Symbols::at(&map, place).is_ok(), given, "{place}");
+        for id in [0, 1, 9, 10, 11, u64::MAX] {
+            let text = Symbols::at(&map, place).and_then(|symbols| symbols.text(id));
+            assert_eq!(text, symbol_text(&map, place, id));
+            assert_eq!(text.is_err(), !given, "{place}");
+        }
+    }
+    let system = SYSTEM_TEXT.as_bytes();
+    let mut record = [0; RECORD_SIZE];
+    for (start, end) in [(0, 11), (9, 8), (usize::MAX, usize::MAX), (0, usize::MAX)] {
+        assert_eq!(raw::symbol_text(&map, system, start, end, 1, LIMIT, &mut record), 50);
+        assert_eq!(raw::symbols(&map, system, start, end, start, LIMIT, &mut record), 50);
+        assert_eq!(raw::text(&map, system, start, end, start, 1, LIMIT, &mut record), 50);
     }
 }
 

@@ -16,6 +16,9 @@ use Rattle.stepping.proofs.Tiling.{runs}
 use Rattle.counting.proofs.Meanings.{ids-sound, no-ids-unread}
 use Rattle.values.proofs.Meanings.{scalars-meant}
 use Rattle.values.proofs.Edges.{edges}
+use Rattle.symbols.proofs.Told.{texts-told}
+use Rattle.symbols.proofs.Stages.{two-stages, steps-enough}
+use Rattle.symbols.proofs.Runs.{ruling-of-runs, places-given, list-of-runs, entry-of-runs}
 use Rattle.walking.proofs.Depths.{limits-range}
 use Rattle.walking.proofs.Seeking.{visit-depth}
 use Rattle.walking.proofs.Exact.{exact, never-outside}
@@ -70,5 +73,12 @@ equal =
       depthBound = visit-depth;
       firstBytes = first-bytes;
       recordsBegin = records-begin;
+      texts = texts-told;
+      ruling = ruling-of-runs;
+      places = places-given;
+      lists = list-of-runs;
+      entries = entry-of-runs;
+      steps = steps-enough;
+      stages = two-stages;
       edges = edges;
     }

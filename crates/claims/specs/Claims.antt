@@ -15,6 +15,7 @@ use Rattle.stepping.specs.Theorems.{RunsExist}
 use Rattle.counting.specs.Meaning.{IdsSound, NoIdsUnread}
 use Rattle.values.specs.Meaning.{ScalarsMeant}
 use Rattle.values.specs.Edges.{Edges}
+use Rattle.symbols.specs.TextTheorems.{TextsTold, TwoStages, StepsEnough, RulingOfRuns, PlacesGiven, ListOfRuns, EntryOfRuns}
 use Rattle.walking.specs.Theorems.{Exact, NeverOutside, LimitsRange, DepthBound}
 use Rattle.runs.specs.Theorems.{StillReached}
 use Rattle.runs.specs.Program.{ProgramEnds, ProgramTiling, ProgramOverwriting}
@@ -87,5 +88,14 @@ pub record Equal : Type 0 where
   -- the records, by the change request A.6: "The first eight words keep their meaning", in single calls and in many steps
   pub firstBytes : FirstBytes
   pub recordsBegin : RecordsBegin
+  -- the text of a symbol, by the change request A.7: where it lies and what it is; that the lookup's steps are the reader's own, as many as there are; and that
+  -- the list found once and a text under it are the lookup
+  pub texts : TextsTold
+  pub ruling : RulingOfRuns
+  pub places : PlacesGiven
+  pub lists : ListOfRuns
+  pub entries : EntryOfRuns
+  pub steps : StepsEnough
+  pub stages : TwoStages
   -- the maps at the edges that are to be proved
   pub edges : Edges

@@ -4,6 +4,7 @@ ghost use Rattle.maps.specs.Private.Inside.{insideOf};
 
 pub mod exports;
 pub mod steps;
+pub mod symbol_texts;
 
 use stepping::cursor::LAST_KIND;
 pub use walking::walk;

@@ -2,6 +2,7 @@
 ghost use mathlib.Core.Path.{_≡_};
 ghost use Prim.Native.Nat.{_<_, _≤_};
 ghost use lib.ListN.{length};
+use crate::symbol_calls;
 use maps::exports::ion_map_annotation;
 use maps::exports::ion_map_decimal;
 use maps::exports::ion_map_ids;
@@ -62,6 +63,9 @@ fn size_word(asked: &[u8]) -> usize {
         return 6;
     }
     if check::same(asked, b"steps") {
+        return 6;
+    }
+    if check::same(asked, b"text") {
         return 6;
     }
     5
@@ -173,7 +177,7 @@ fn called(line: &[u8], map: &[u8], out: &mut [u8]) -> Line {
             number_or(line, 5, ANNOTATION_LIMIT),
         ));
     }
-    Line::new().word(b"no such function")
+    symbol_calls::called(line, map, out)
 }
 
 // The same with the first `size` bytes of `out` as the buffer; with more than there is room for, no call.

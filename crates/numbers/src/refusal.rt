@@ -65,6 +65,10 @@ pub const BAD_UTF8: u64 = 36;
 pub const TOO_DEEP: u64 = 37;
 // A marker that isn't 1.0.
 pub const NOT_VERSION_1_0: u64 = 60;
+// A symbol table with imports.
+pub const HAS_IMPORTS: u64 = 64;
+// A symbol table with a second list of symbols.
+pub const SECOND_SYMBOLS: u64 = 65;
 
 // Whoever calls.
 
@@ -77,5 +81,7 @@ pub const RECORD_TOO_SHORT: u64 = 51;
 pub const NOT_A_CONTAINER: u64 = 52;
 // More input than `mapspans` takes.
 pub const INPUT_TOO_LONG: u64 = 54;
+// A lent system text that isn't the nine joined.
+pub const NOT_THE_SYSTEM_TEXT: u64 = 66;
 // A limit outside its range.
 pub const LIMIT_OUT_OF_RANGE: u64 = 68;

@@ -1,4 +1,5 @@
 pub mod Storing
 pub mod Numbers
+pub mod SymbolNumbers
 pub mod FirstBytes
 pub mod Examples

@@ -28,7 +28,7 @@ fn wide(x: u8) -> u64
 }
 
 // How many bytes start..end has: none where its end stands before its start.
-fn size_of(start: usize, end: usize) -> u64
+pub fn size_of(start: usize, end: usize) -> u64
     ensures { λ r. ⌜ r ≡ end - start ⌝ }
 {
     if end < start {

@@ -19,6 +19,8 @@ pub struct Plan {
     pub boundaries: usize,
     pub parts: usize,
     pub limits: usize,
+    /// Maps with symbol tables.
+    pub symbols: usize,
 }
 
 pub const FULL: Plan = Plan {
@@ -28,6 +30,7 @@ pub const FULL: Plan = Plan {
     boundaries: 2_000_000,
     parts: 10_000_000,
     limits: 400_000,
+    symbols: 1_000_000,
 };
 
 pub const SHORT: Plan = Plan {
@@ -37,6 +40,7 @@ pub const SHORT: Plan = Plan {
     boundaries: 200_000,
     parts: 1_000_000,
     limits: 40_000,
+    symbols: 100_000,
 };
 
 /// For the wrong readers.
@@ -47,6 +51,7 @@ pub const SMALLEST: Plan = Plan {
     boundaries: 20_000,
     parts: 20_000,
     limits: 8_000,
+    symbols: 20_000,
 };
 
 /// Bytes that, of all, change the most where they stand.

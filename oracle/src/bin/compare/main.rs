@@ -1,6 +1,6 @@
 //! Asks our reader and the Rust's the same questions and compares every answer.
 //!
-//! `compare [--short] [SEED]` compares; `compare --wrong` shows that wrong readers are noticed;
+//! `compare [--short] [SEED]` compares, `compare --texts [SEED]` the texts of symbols alone; `compare --wrong` shows that wrong readers are noticed;
 //! `compare --corpus FOLDER` writes maps for the fuzzer to begin with.
 
 mod expected;
@@ -14,6 +14,7 @@ mod pads;
 mod question;
 mod session;
 mod shrink;
+mod symbols;
 mod walking;
 mod wrong;
 
@@ -38,6 +39,8 @@ fn main() {
         [] => compare(FULL, 1),
         ["--short"] => compare(SHORT, 1),
         ["--wrong"] => show_wrong(),
+        ["--texts"] => compare_texts(1),
+        ["--texts", seed] => compare_texts(number(seed)),
         ["--corpus", folder] => write_corpus(folder),
         ["--short", seed] => compare(SHORT, number(seed)),
         [seed] => compare(FULL, number(seed)),
@@ -50,7 +53,9 @@ fn number(word: &str) -> u64 {
 }
 
 fn usage() -> ! {
-    eprintln!("usage: compare [--short] [SEED], compare --wrong, or compare --corpus FOLDER");
+    eprintln!(
+        "usage: compare [--short | --texts] [SEED], compare --wrong, or compare --corpus FOLDER"
+    );
     exit(2)
 }
 
@@ -58,11 +63,19 @@ fn compare(plan: Plan, seed: u64) {
     let started = Instant::now();
     let mut session = Session::new(Exports);
     ask_all(&mut session, plan, seed);
+    let texts = symbols::ask_all(plan.symbols, seed, symbols::Mistake::Nothing);
     report(&mut session);
+    report_texts(&texts);
     println!("seed {seed}, {} s", started.elapsed().as_secs());
     let tally = &session.judge.tally;
-    let (cases, differ) = (tally.cases(), tally.differ);
-    let missing = missing_refusals(&tally.refusals.all);
+    let cases = tally.cases() + texts.agreed.iter().sum::<u64>();
+    let differ = tally.differ + texts.differ;
+    let mut missing = missing_refusals(&tally.refusals.all);
+    missing.extend(
+        symbols::REFUSALS
+            .iter()
+            .filter(|number| texts.refusals[**number] == 0),
+    );
     let unmet: Vec<&str> = moved(tally)
         .filter(|(_, count)| *count == 0)
         .map(|(text, _)| text)
@@ -79,6 +92,15 @@ fn compare(plan: Plan, seed: u64) {
     println!("{} cases agree, {differ} differ", grouped(cases));
     let is_all_met = missing.is_empty() && unmet.is_empty() && MISSING.is_empty();
     exit((differ > 0 || !is_all_met) as i32)
+}
+
+/// The texts of symbols alone.
+fn compare_texts(seed: u64) {
+    let texts = symbols::ask_all(FULL.symbols, seed, symbols::Mistake::Nothing);
+    report_texts(&texts);
+    let agreed = texts.agreed.iter().sum();
+    println!("{} cases agree, {} differ", grouped(agreed), texts.differ);
+    exit((texts.differ > 0) as i32)
 }
 
 fn missing_refusals(met: &Counts) -> Vec<usize> {
@@ -131,6 +153,30 @@ fn report<R: Reader>(session: &mut Session<R>) {
     }
 }
 
+/// The texts of symbols, which the Rust at hand has no function for.
+fn report_texts(texts: &symbols::Symbols) {
+    println!("by a second reading of the change request A.7 over the Rust's steps:");
+    for (kind, agreed) in symbols::KINDS.iter().zip(texts.agreed) {
+        println!("{:>13}  {kind}", grouped(agreed));
+    }
+    println!(
+        "{:>13}  by a limit that the Rust hasn't got, not compared",
+        grouped(texts.apart)
+    );
+    let met = texts
+        .refusals
+        .iter()
+        .enumerate()
+        .filter(|(_, count)| **count > 0);
+    let words: Vec<String> = met
+        .map(|(number, count)| format!("{number}:{count}"))
+        .collect();
+    println!("  refusals: {}", words.join(" "));
+    for text in &texts.differences {
+        println!("differs: {text}");
+    }
+}
+
 // ===== Wrong readers =====
 
 /// Runs each wrong reader until it is noticed, and our own in the same layer, which must not be.
@@ -148,8 +194,14 @@ fn show_wrong() {
         .iter()
         .filter(|(mistake, text)| notice(*mistake, text))
         .count();
-    println!("{noticed} of {} noticed", MISTAKES.len());
-    exit((noticed < MISTAKES.len() || !is_right) as i32)
+    let readings = symbols::MISTAKES;
+    let seen = readings
+        .iter()
+        .filter(|mistake| notice_text(**mistake))
+        .count();
+    let (noticed, all) = (noticed + seen, MISTAKES.len() + readings.len());
+    println!("{noticed} of {all} noticed");
+    exit((noticed < all || !is_right) as i32)
 }
 
 fn notice(mistake: Mistake, text: &str) -> bool {
@@ -161,6 +213,16 @@ fn notice(mistake: Mistake, text: &str) -> bool {
         None => println!("NOT NOTICED: {text}"),
     }
     !differences.is_empty()
+}
+
+/// Of the texts of symbols the second reading is the wrong one.
+fn notice_text(mistake: symbols::Mistake) -> bool {
+    let texts = symbols::ask_all(SMALLEST.symbols, 1, mistake);
+    match texts.differences.first() {
+        Some(case) => println!("noticed: {mistake:?}: {case}"),
+        None => println!("NOT NOTICED: {mistake:?}"),
+    }
+    texts.differ > 0
 }
 
 // ===== The fuzzer's first maps =====
