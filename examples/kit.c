@@ -165,6 +165,29 @@ static void check_decimal(void)
     check("decimal outside", ion_map_decimal(map, LENGTH, 17, SIZE_MAX, record, sizeof record), 50);
 }
 
+static void check_timestamp(void)
+{
+    static const uint8_t bakes[] = {
+        0x6B, 0x43, 0xA4, 0x0F, 0xE8, 0x82, 0x9D, 0x96, 0x9E, 0x8F, 0xC3, 0x07, /*  0: 2024-02-29T22:30:15.007Z at -07:00 */
+        0xE6, 0x81, 0x84, 0x63, 0xC0, 0x0F, 0xD0                                /* 12: annotated, the year 2000 */
+    };
+    enum { BAKES = sizeof bakes };
+    static const words full = {ION_MAP_KIND_TIMESTAMP, ION_MAP_PRECISION_FRACTION, 0, 1020, 0xF1E161D0207E8u, 3, 1, 7, 0};
+    static const words year = {ION_MAP_KIND_TIMESTAMP, ION_MAP_PRECISION_YEAR, 15, 0, 2000, 0, 0, 0, 0};
+    static const words other = {ION_MAP_KIND_SCALAR, 0x82, 13, ION_MAP_WHAT_STRING, 0, 14, 16, 0, 2};
+    static const uint8_t leap[] = {0x65, 0x80, 0x0E, 0xEC, 0x82, 0x9D}; /* 1900-02-29 */
+    static const words none = {ION_MAP_KIND_REFUSED, ION_MAP_REFUSAL_TIMESTAMP_OUT_OF_RANGE, 0, 0, 0, 0, 0, 0, 0};
+
+    check("timestamp", ion_map_timestamp(bakes, BAKES, 0, BAKES, 0, LIMIT, record, sizeof record), 0);
+    check_words("timestamp", record, full);
+    check("year", ion_map_timestamp(bakes, BAKES, 0, BAKES, 12, LIMIT, record, sizeof record), 0);
+    check_words("year", record, year);
+    check("no timestamp", ion_map_timestamp(map, LENGTH, 0, LENGTH, 13, LIMIT, record, sizeof record), 0);
+    check_words("no timestamp", record, other);
+    check("no leap year", ion_map_timestamp(leap, sizeof leap, 0, sizeof leap, 0, LIMIT, record, sizeof record), 62);
+    check_words("no leap year", record, none);
+}
+
 static void check_many(void)
 {
     static const words value = {ION_MAP_KIND_VALUE, 0xD5, 4, 6, 7, 8, 13, 0, 5};
@@ -277,6 +300,7 @@ int main(void)
     check_scalar();
     check_number();
     check_decimal();
+    check_timestamp();
     check_many();
     check_limits();
     check_symbols();

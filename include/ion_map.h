@@ -218,7 +218,7 @@ uint64_t ion_map_step(const uint8_t *map, size_t map_len, size_t start, size_t e
 }
 #endif
 
-/* =============== Part 2: annotations, stepping in, scalars, numbers, decimals, many steps =============== */
+/* ========== Part 2: annotations, stepping in, scalars, timestamps, numbers, decimals, many steps ========== */
 
 /* Kinds of the records of part 2, beside ION_MAP_KIND_END and ION_MAP_KIND_REFUSED. */
 enum {
@@ -226,7 +226,8 @@ enum {
     ION_MAP_KIND_BODY = 6,
     ION_MAP_KIND_SCALAR = 7,
     ION_MAP_KIND_NUMBER = 8,
-    ION_MAP_KIND_DECIMAL = 10
+    ION_MAP_KIND_DECIMAL = 10,
+    ION_MAP_KIND_TIMESTAMP = 11
 };
 
 /* Words of an annotation; words 1, 4, 5 and 7 are 0. */
@@ -262,7 +263,7 @@ enum {
                                    without leading zero bytes, so that zero has none */
     ION_MAP_WHAT_FLOAT = 3,     /* number: the 64 bits of a double, also where the map has 32 or none */
     ION_MAP_WHAT_DECIMAL = 4,   /* part: its body, which ion_map_decimal splits */
-    ION_MAP_WHAT_TIMESTAMP = 5, /* part: its body */
+    ION_MAP_WHAT_TIMESTAMP = 5, /* part: its body, which ion_map_timestamp reads */
     ION_MAP_WHAT_SYMBOL = 6,    /* number: its ID */
     ION_MAP_WHAT_STRING = 7,    /* part: its text, which is UTF-8 and has no final zero */
     ION_MAP_WHAT_CLOB = 8,      /* part: its bytes */
@@ -300,6 +301,30 @@ enum {
     ION_MAP_DECIMAL_EXPONENT = 7           /* the exponent's magnitude, below 2^62 */
 };
 
+/* Words of a timestamp; word 8 is 0. */
+enum {
+    ION_MAP_TIMESTAMP_PRECISION = 1,  /* how far it goes, ION_MAP_PRECISION_... */
+    ION_MAP_TIMESTAMP_DESCRIPTOR = 2, /* the descriptor's position */
+    ION_MAP_TIMESTAMP_OFFSET = 3,     /* by how many minutes local time is ahead of UTC, and 1440; 0 where that is
+                                         unknown */
+    ION_MAP_TIMESTAMP_FIELDS = 4,     /* in UTC: the year in the low 16 bits, then month, day, hour, minute and second
+                                         in 8 bits each; those that it doesn't have are 0 */
+    ION_MAP_TIMESTAMP_EXPONENT = 5,   /* the fraction of the second is the coefficient times ten to the exponent, and
+                                         below 1: the exponent's magnitude, below 2^62 */
+    ION_MAP_TIMESTAMP_EXPONENT_NEGATIVE = 6, /* 1 where it is negative; an exponent of negative zero isn't */
+    ION_MAP_TIMESTAMP_COEFFICIENT = 7
+};
+
+/* Word 1 of a timestamp. An hour stands with its minute. */
+enum {
+    ION_MAP_PRECISION_YEAR = 1,
+    ION_MAP_PRECISION_MONTH = 2,
+    ION_MAP_PRECISION_DAY = 3,
+    ION_MAP_PRECISION_MINUTE = 4,
+    ION_MAP_PRECISION_SECOND = 5,
+    ION_MAP_PRECISION_FRACTION = 6
+};
+
 /* Refusals that only the functions of part 2 give, beside those of part 1. */
 enum {
     ION_MAP_REFUSAL_VAR_INT_CUT = 4,        /* a VarInt without a last byte - the end of the part */
@@ -308,7 +333,11 @@ enum {
     ION_MAP_REFUSAL_NEGATIVE_ZERO_INT = 34, /* a negative int of zero - its descriptor */
     ION_MAP_REFUSAL_SYMBOL_TOO_LONG = 35,   /* a symbol of over 8 bytes - its descriptor */
     ION_MAP_REFUSAL_BAD_UTF8 = 36,          /* a string that isn't UTF-8 - its descriptor */
-    ION_MAP_REFUSAL_NOT_A_CONTAINER = 52    /* stepping into a scalar or a null - its descriptor */
+    ION_MAP_REFUSAL_NOT_A_CONTAINER = 52,   /* stepping into a scalar or a null - its descriptor */
+    ION_MAP_REFUSAL_HOUR_WITHOUT_MINUTE = 61, /* a timestamp that ends after its hour - its descriptor */
+    ION_MAP_REFUSAL_TIMESTAMP_OUT_OF_RANGE = 62, /* a timestamp's year outside 1 to 9999, another field, the offset or
+                                                    the fraction outside its range - its descriptor */
+    ION_MAP_REFUSAL_COEFFICIENT_TOO_LONG = 63 /* a fraction's coefficient of 2^64 or more - its descriptor */
 };
 
 #ifdef __cplusplus
@@ -333,6 +362,12 @@ uint64_t ion_map_step_in(const uint8_t *map, size_t map_len, size_t start, size_
 /* Reads the scalar at `position`; the arguments are those of ion_map_step_in. Record kinds: SCALAR, REFUSED. */
 uint64_t ion_map_scalar(const uint8_t *map, size_t map_len, size_t start, size_t end, size_t position,
                         size_t annotations, uint8_t *out, size_t out_len);
+
+/* Reads the timestamp at `position`; the arguments are those of ion_map_step_in. Of a null and of a value of another
+   type the record is the one of ion_map_scalar. Record kinds: TIMESTAMP, SCALAR, REFUSED (3 and 4 at the body's end,
+   20 at a number's first byte, 61 to 63 at the descriptor). */
+uint64_t ion_map_timestamp(const uint8_t *map, size_t map_len, size_t start, size_t end, size_t position,
+                           size_t annotations, uint8_t *out, size_t out_len);
 
 /* As many steps as there is room for: the records of ion_map_step one after the other, ION_MAP_RECORD_SIZE bytes
    each, the last being an end or a refusal where one is met. *count is how many there are, 0 with 51. Where the

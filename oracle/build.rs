@@ -79,12 +79,13 @@ fn main() {
 }
 
 /// The functions that the comparison calls.
-const EXPORTS: [&str; 12] = [
+const EXPORTS: [&str; 13] = [
     "ion_map_step",
     "ion_map_steps",
     "ion_map_annotation",
     "ion_map_step_in",
     "ion_map_scalar",
+    "ion_map_timestamp",
     "ion_map_number",
     "ion_map_decimal",
     "ion_map_walked",

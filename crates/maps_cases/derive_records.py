@@ -7,7 +7,7 @@
 
 Behind the buffer's length a question may have the limits of the change request A.9: the most annotation bytes, and of `walked` also the depth. Without them they
 are 255 and 32. What a value, a pad or a wrapper is and where it is refused comes from ../mapspans_cases/derive.py, which follows the scope paper and the change requests after
-it. The records follow the paper's "Record", "Scalars" and "VarUInt, VarInt, Int" and the change requests A.6 and A.1, the kinds 5 to 8 and 10 the tables of
+it. The records follow the paper's "Record", "Scalars" and "VarUInt, VarInt, Int" and the change requests A.6, A.1 and A.4, the kinds 5 to 8, 10 and 11 the tables of
 include/ion_map.h.
 Nothing is shared with the reader that is compared.
 """
@@ -30,7 +30,7 @@ RECORD_WORDS = 9
 RECORD_SIZE = RECORD_WORDS * WORD_SIZE
 STEPS = [steps.step_stream, steps.step_sequence, steps.step_struct]
 FIELDS = 2
-END, MARKER, VALUE, FIELD, _, ANNOTATION, BODY, SCALAR, NUMBER, REFUSED, SPLIT = range(11)
+END, MARKER, VALUE, FIELD, _, ANNOTATION, BODY, SCALAR, NUMBER, REFUSED, SPLIT, STAMP = range(12)
 TEXT, SYMBOLS = 13, 19
 NULL, BOOL, INT, FLOAT, DECIMAL, TIMESTAMP, SYMBOL, STRING, CLOB, BLOB, CONTAINER = range(11)
 
@@ -45,6 +45,7 @@ REFUSALS = {
     "scalar": FRAMING | {33, 34, 35, 36, 50, 51, 68},
     "number": {3, 4, 9, 20, 50, 51},
     "decimal": {4, 20, 50, 51},
+    "timestamp": FRAMING | {4, 33, 34, 35, 36, 50, 51, 61, 62, 63, 68},
     "walked": set(),
     "ids": set(),
     "text": STEPPING | {36, 64, 65, 66},
@@ -53,7 +54,7 @@ REFUSALS = {
 }
 
 # How many numbers a question has before its limits.
-NUMBERS = {"step": 5, "steps": 5, "annotation": 4, "step_in": 4, "scalar": 4, "number": 6, "decimal": 3}
+NUMBERS = {"step": 5, "steps": 5, "annotation": 4, "step_in": 4, "scalar": 4, "number": 6, "decimal": 3, "timestamp": 4}
 NUMBERS |= {"walked": 1, "ids": 3, "text": 5, "symbols": 4, "symbol_text": 4}
 
 # ===== The records' words =====
@@ -215,6 +216,64 @@ def symbols(data, start, end, place, limits, lent):
     return record(SYMBOLS, int(found is not None), 0, 0, 0, first, past, length=past - first)
 
 
+def month_days(year, month):
+    leap = year % 4 == 0 and year % 100 != 0 or year % 400 == 0
+    return [31, 29 if leap else 28, 31, 30, 31, 30, 31, 31, 30, 31, 30, 31][month - 1]
+
+
+def fields_fit(fields):
+    """A.4: year, month, day, hour, minute and second within their ranges, those that are there."""
+    year, month, day, hour, minute, second = fields + [None] * (6 - len(fields))
+    return (
+        1 <= year <= 9999
+        and (month is None or 1 <= month <= 12)
+        and (day is None or 1 <= day <= month_days(year, month))
+        and (hour or 0) <= 23
+        and (minute or 0) <= 59
+        and (second or 0) <= 59
+    )
+
+
+def fraction(data, at, end):
+    """Sign and magnitude of the exponent and of the coefficient, of the bytes behind the second."""
+    negative, exponent, after = var_int(data, at, end)
+    body = data[after:end]
+    magnitude = int.from_bytes(body, "big") % (1 << max(8 * len(body) - 1, 0))
+    return int(negative and exponent > 0), exponent, body[:1] > b"\x7f", magnitude
+
+
+def fraction_fits(negative, exponent, below, coefficient):
+    """Its coefficient times ten to its exponent, at least 0 and below 1."""
+    if coefficient == 0:
+        return True
+    return bool(not below and negative and (exponent > 20 or coefficient < 10**exponent))
+
+
+def stamp(data, item):
+    """A.4: an offset, VarUInts, and a fraction behind the second."""
+    negative, minutes, at = var_int(data, item.body, item.end)
+    fields = []
+    while len(fields) < 6 and (at < item.end or not fields):
+        field, at = var_uint(data, at, item.end)
+        fields.append(field)
+    parts = fraction(data, at, item.end) if at < item.end else (0, 0, False, 0)
+    refuse_if(len(fields) == 4, 61, item.descriptor)
+    refuse_if(parts[3] >= 1 << 64, 63, item.descriptor)
+    fits = minutes <= 1439 and fields_fit(fields) and fraction_fits(*parts)
+    refuse_if(not fits, 62, item.descriptor)
+    precision = 6 if at < item.end else [1, 2, 3, None, 4, 5][len(fields) - 1]
+    unknown = len(fields) < 4 or negative and minutes == 0
+    offset = 0 if unknown else 1440 + (-minutes if negative else minutes)
+    word = sum(field << shift for field, shift in zip(fields, (0, 16, 24, 32, 40, 48)))
+    return record(STAMP, precision, item.descriptor, offset, word, parts[1], parts[0], parts[3])
+
+
+def timestamp(data, start, end, position, limits):
+    item = value_at(data, start, end, position, limits)
+    is_stamp = item.byte // 16 == 6 and item.byte % 16 != 15
+    return stamp(data, item) if is_stamp else scalar(data, start, end, position, limits)
+
+
 def walked(data, most, limits):
     return min(most, len(steps.walk(data, 0, len(data), limits)) - 1)
 
@@ -249,7 +308,7 @@ def ids(data, start, end, position, limits):
 
 COUNTS = {"walked": walked, "ids": ids}
 
-SINGLE = {"step": step, "annotation": annotation, "step_in": step_in, "scalar": scalar, "number": number, "decimal": decimal}
+SINGLE = {"step": step, "annotation": annotation, "step_in": step_in, "scalar": scalar, "number": number, "decimal": decimal, "timestamp": timestamp}
 OF_SYMBOLS = {"text": text, "symbols": symbols, "symbol_text": symbol_text}
 
 
@@ -406,6 +465,8 @@ def asked(question):
     if name == "decimal":
         return f"decimal {text} {numbers[0]} {numbers[1]}", told_decimal(data, records[0])
     start, end, position, *more = numbers
+    if name == "timestamp":
+        return None
     if name in ("step", "steps"):
         rules = ["stream", "sequence", "struct"][more[0]]
         return f"{rules} {text} {position} {end} {len(records)}", " ; ".join(told(name, data, words) for words in records)

@@ -243,6 +243,14 @@ impl<'a> Asked<'a> {
         &self.bytes[start..end]
     }
 
+    pub fn end(&self) -> usize {
+        self.end
+    }
+
+    pub(crate) fn context(&self) -> EncodingContextRef<'a> {
+        self.context
+    }
+
     /// The whole part as the Rust's buffer.
     pub fn part(&self) -> BinaryBuffer<'a> {
         self.part_from(self.at)
@@ -309,10 +317,10 @@ fn magnitude(value: &Int) -> u128 {
 
 // ===== Decimals =====
 
-/// A decimal's descriptor for a body of this length: an empty one has no length field.
-fn decimal_head(length: usize) -> Vec<u8> {
+/// The descriptor of a type for a body of this length: an empty one has no length field.
+pub(crate) fn head(type_code: u8, length: usize) -> Vec<u8> {
     if length < 14 {
-        return vec![0x50 | length as u8];
+        return vec![type_code << 4 | length as u8];
     }
     let mut head = vec![0x80 | (length % 128) as u8];
     let mut left = length / 128;
@@ -320,7 +328,7 @@ fn decimal_head(length: usize) -> Vec<u8> {
         head.push((left % 128) as u8);
         left /= 128;
     }
-    head.push(0x5E);
+    head.push(type_code << 4 | 14);
     head.reverse();
     head
 }
@@ -329,7 +337,7 @@ fn decimal_head(length: usize) -> Vec<u8> {
 /// from the body's start.
 pub fn decimal(asked: &Asked<'_>) -> Result<Decimal, Refusal> {
     let body = asked.bytes(asked.at, asked.end);
-    let mut value = decimal_head(body.len());
+    let mut value = head(5, body.len());
     value.extend_from_slice(body);
     let part = BinaryBuffer::new_with_offset(asked.context, &value, 0);
     let read = match RawBinarySequenceIterator_1_0::new(part).next() {
@@ -552,7 +560,7 @@ pub fn scalar(asked: &Asked<'_>, position: usize) -> Result<Reading, Refusal> {
     })
 }
 
-/// Decimals and timestamps are framed, not read; `decimal` reads a decimal's body.
+/// Decimals and timestamps are framed, not read; `decimal` and `timestamps` read their bodies.
 fn scalar_of(asked: &Asked<'_>, value: &LazyRawBinaryValue_1_0<'_>) -> Result<Scalar, Refusal> {
     let body = value.encoded_value.value_body_range();
     if !value.is_null() {

@@ -8,6 +8,7 @@ use crate::asking::{Refusal, Rules, Scalar, Spans};
 use crate::lazy::binary::raw::type_descriptor::TypeDescriptor;
 use crate::lazy::expanded::EncodingContext;
 use crate::requests::{self, Steps};
+use crate::timestamps::{self, Stamp};
 use crate::IonType;
 use std::cell::RefCell;
 use std::io::{self, BufRead, Write};
@@ -126,7 +127,7 @@ fn answer_one(
     }
     let wanted = match kind {
         "descriptor" => 0,
-        "varuint" | "varint" | "decimal" | "length" | "pad" | "wrapper" | "walk" => 2,
+        "varuint" | "varint" | "decimal" | "instant" | "length" | "pad" | "wrapper" | "walk" => 2,
         "int" | "stream" | "sequence" | "struct" | "annotations" | "scalar" | "stepin" => 3,
         _ => return None,
     };
@@ -155,6 +156,7 @@ fn answer_part(kind: &str, asked: &Asked<'_>, third: usize, out: &mut Vec<u8>) {
         "varint" => asking::var_int(part).map(|number| say_var_int(number, out)),
         "int" => asking::int(part, third).map(|number| say_int(number, out)),
         "decimal" => asking::decimal(asked).map(|decimal| say_decimal(decimal, out)),
+        "instant" => say_instant(asked, out),
         "length" => {
             asking::length(part).map(|(body, length)| say(out, format_args!("{body} {length}")))
         }
@@ -294,6 +296,25 @@ fn say_decimal(decimal: Decimal, out: &mut Vec<u8>) {
     );
     say(out, format_args!("{} ", sign(decimal.negative)));
     say_magnitude(magnitude, out);
+}
+
+/// A timestamp that both accept, and nothing to compare where one of the two alone does, where neither
+/// does by its ranges, and of a body of under two bytes, which the Rust frames as no timestamp.
+fn say_instant(asked: &Asked<'_>, out: &mut Vec<u8>) -> Result<(), Refusal> {
+    if asked.end() - asked.at() < 2 {
+        return Ok(say(out, format_args!("unsupported")));
+    }
+    match timestamps::timestamp(asked)? {
+        Stamp::Accepted(instant) if !timestamps::only_there(asked) => {
+            say(out, format_args!("{} {}", instant.precision, instant.offset));
+            for field in instant.fields {
+                say(out, format_args!(" {field}"));
+            }
+            say(out, format_args!(" {}", instant.attoseconds))
+        }
+        _ => say(out, format_args!("unsupported")),
+    }
+    Ok(())
 }
 
 // ===== Steps =====

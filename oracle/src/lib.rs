@@ -42,6 +42,7 @@ pub mod asking;
 pub mod harness;
 pub mod refusals;
 pub mod requests;
+pub mod timestamps;
 
 /// The words of a record, for the programs that call our reader beside the Rust.
 pub const RECORD_WORDS: usize = 9;

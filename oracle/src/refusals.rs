@@ -56,6 +56,10 @@ const DECODING: &[(&str, u32)] = &[
     ),
     ("found a symbol ID that was too large to fit in a usize", 35),
     ("found a string with invalid utf-8 data", 36),
+    (
+        "timestamps with an hour must also specify a minute",
+        61,
+    ),
 ];
 
 /// The number of a refusal, and its position where the Rust has one. A message that is not in the

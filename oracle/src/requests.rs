@@ -9,13 +9,15 @@ pub enum Request {
     LimitBeforeCut,
     OneVersion,
     HigherLimit,
+    Ranges,
 }
 
 /// What each request moves, in the order of `Request`.
-pub const REQUESTS: [&str; 3] = [
+pub const REQUESTS: [&str; 4] = [
     "annotations over the limit and cut short: 26 here, 5 in the Rust (A.10)",
     "a marker that isn't 1.0: 60 here, passed in the Rust (A.2)",
     "over 255 bytes of annotations: by a higher limit here, 26 in the Rust (A.9)",
+    "a timestamp that one of the two alone accepts (A.4)",
 ];
 
 // ===== The answers wanted =====

@@ -20,6 +20,7 @@ pub(crate) mod kind {
     pub(crate) const NUMBER: u64 = 8;
     pub(crate) const REFUSED: u64 = 9;
     pub(crate) const DECIMAL: u64 = 10;
+    pub(crate) const TIMESTAMP: u64 = 11;
     pub(crate) const TEXT: u64 = 13;
     pub(crate) const SYMBOLS: u64 = 19;
 }

@@ -14,6 +14,7 @@ mod refusal;
 mod scalar;
 mod steps;
 mod symbols;
+mod timestamp;
 mod walk;
 
 pub use annotations::{annotation, annotations, Annotation, Annotations};
@@ -26,4 +27,5 @@ pub use refusal::Refusal;
 pub use scalar::{scalar, Scalar};
 pub use steps::{ids_begun, items, step, step_in, Body, Items};
 pub use symbols::{symbol_text, Symbols, SYSTEM_TEXT};
+pub use timestamp::{timestamp, Precision, Timestamp, TimestampOr};
 pub use walk::{walk, walked, Walk};

@@ -6,6 +6,7 @@ use crate::refusal::Refusal;
 use crate::scalar::{self, Scalar};
 use crate::steps::{self, Body, Items};
 use crate::symbols::{self, Symbols};
+use crate::timestamp::{self, TimestampOr};
 use crate::walk::{self, Walk};
 use std::ops::{Range, RangeInclusive};
 
@@ -75,6 +76,11 @@ impl Limits {
     /// [`scalar`](crate::scalar) by these limits.
     pub fn scalar(self, map: &[u8], part: Part, position: usize) -> Result<Scalar<'_>, Refusal> {
         scalar::scalar_by(self, map, part, position)
+    }
+
+    /// [`timestamp`](crate::timestamp) by these limits.
+    pub fn timestamp(self, map: &[u8], part: Part, position: usize) -> Result<TimestampOr<'_>, Refusal> {
+        timestamp::timestamp_by(self, map, part, position)
     }
 
     /// [`walk`](crate::walk) by these limits.

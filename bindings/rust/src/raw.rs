@@ -63,6 +63,16 @@ extern "C" {
         out: *mut u8,
         out_len: usize,
     ) -> u64;
+    fn ion_map_timestamp(
+        map: *const u8,
+        map_len: usize,
+        start: usize,
+        end: usize,
+        position: usize,
+        annotations: usize,
+        out: *mut u8,
+        out_len: usize,
+    ) -> u64;
     fn ion_map_number(
         map: *const u8,
         map_len: usize,
@@ -245,6 +255,30 @@ pub fn scalar(map: &[u8], start: usize, end: usize, position: usize, annotations
     // SAFETY: as in `step`.
     unsafe {
         ion_map_scalar(
+            map.as_ptr(),
+            map.len(),
+            start,
+            end,
+            position,
+            annotations,
+            out.as_mut_ptr(),
+            out.len(),
+        )
+    }
+}
+
+/// What the timestamp at `position` says, and of a null or another type what [`scalar`] answers.
+///
+/// ```
+/// let map = [0x63, 0xC0, 0x0F, 0xD0];
+/// let mut record = [0; ion_map::raw::RECORD_SIZE];
+/// assert_eq!(ion_map::raw::timestamp(&map, 0, 4, 0, 255, &mut record), 0);
+/// assert_eq!(ion_map::raw::words(&record), [11, 1, 0, 0, 2000, 0, 0, 0, 0]);
+/// ```
+pub fn timestamp(map: &[u8], start: usize, end: usize, position: usize, annotations: usize, out: &mut [u8]) -> u64 {
+    // SAFETY: as in `step`.
+    unsafe {
+        ion_map_timestamp(
             map.as_ptr(),
             map.len(),
             start,

@@ -71,6 +71,9 @@ refusals! {
     BAD_UTF8 = 36, "bad UTF-8";
     TOO_DEEP = 37, "a container too deep for the walk";
     NOT_VERSION_1_0 = 60, "a marker that isn't 1.0";
+    HOUR_WITHOUT_MINUTE = 61, "a timestamp's hour with no minute";
+    TIMESTAMP_OUT_OF_RANGE = 62, "a timestamp's field, offset or fraction out of range";
+    COEFFICIENT_TOO_LONG = 63, "a timestamp's coefficient of over 8 bytes";
     HAS_IMPORTS = 64, "a symbol table with imports";
     SECOND_SYMBOLS = 65, "a symbol table with a second list of symbols";
 

@@ -26,7 +26,7 @@ pub enum Scalar<'a> {
     Float(f64),
     /// A decimal's body, which [`decimal`](crate::decimal) splits.
     Decimal(&'a [u8]),
-    /// A timestamp's body.
+    /// A timestamp's body; [`timestamp`](crate::timestamp) reads it.
     Timestamp(&'a [u8]),
     /// A symbol's ID.
     Symbol(u64),
@@ -98,7 +98,7 @@ pub(crate) fn scalar_by(limits: Limits, map: &[u8], part: Part, position: usize)
     }
 }
 
-fn from_answer<'a>(map: &'a [u8], answer: &Answer) -> Result<Scalar<'a>, Refusal> {
+pub(crate) fn from_answer<'a>(map: &'a [u8], answer: &Answer) -> Result<Scalar<'a>, Refusal> {
     let ion_type = Type::of_byte(answer.byte::<1>()?).ok_or(Refusal::unknown_answer())?;
     let number = answer.word::<4>();
     let part = bytes(map, answer.span::<5, 6>())?;

@@ -4,8 +4,8 @@ mod common;
 
 use common::short;
 use ion_map::{
-    annotation, annotations, decimal, int, items, raw, scalar, step, step_in, symbol_text, var_int, var_uint, walk,
-    walked, Limits, Part, PartKind, Refusal, Symbols, SYSTEM_TEXT,
+    annotation, annotations, decimal, int, items, raw, scalar, step, step_in, symbol_text, timestamp, var_int, var_uint,
+    walk, walked, Limits, Part, PartKind, Refusal, Scalar, Symbols, TimestampOr, SYSTEM_TEXT,
 };
 use raw::RECORD_SIZE;
 use std::ops::Range;
@@ -27,6 +27,7 @@ fn refusals(map: &[u8], span: Range<usize>, position: usize) -> Vec<Option<Refus
         refusals.push(step(map, part, position).err());
         refusals.push(step_in(map, part, position).err());
         refusals.push(scalar(map, part, position).err());
+        refusals.push(timestamp(map, part, position).err());
     }
     refusals.push(annotation(map, span.clone(), position).err());
     refusals.push(var_uint(map, span.clone(), position).err());
@@ -122,6 +123,7 @@ fn short_buffers_and_unknown_kinds() {
         assert_eq!(raw::annotation(&map, 9, 0, 9, out), 51);
         assert_eq!(raw::step_in(&map, 9, 0, 9, 9, out), 51);
         assert_eq!(raw::scalar(&map, 9, 0, 9, 9, out), 51);
+        assert_eq!(raw::timestamp(&map, 9, 0, 9, 9, out), 51);
         assert_eq!(raw::number(&map, 9, 0, 9, 9, 9, out), 51);
         assert_eq!(raw::decimal(&map, 9, 0, out), 51);
         assert_eq!(raw::steps(&map, 9, 0, 9, 9, 9, out), (51, 0));
@@ -171,6 +173,7 @@ fn limits_of_any_size() {
                     limits.step(&map, part, position).err(),
                     limits.step_in(&map, part, position).err(),
                     limits.scalar(&map, part, position).err(),
+                    limits.timestamp(&map, part, position).err(),
                 ];
                 assert!(
                     refusals.iter().all(|refusal| (*refusal == refused) == wrong),
@@ -206,6 +209,7 @@ fn ask(map: &[u8]) {
         refusals(map, 0..map.len(), position);
         annotations(map, position..map.len()).for_each(drop);
         check_decimal(map, position);
+        check_timestamp(map, position);
     }
     check_walk(map);
 }
@@ -221,6 +225,22 @@ fn check_decimal(map: &[u8], start: usize) {
             exponent.ok().and_then(|exponent| exponent.to_i64())
         ),
         refused => assert_eq!(refused.err(), exponent.err()),
+    }
+}
+
+/// What is no timestamp is read as its scalar, and a timestamp lies where its scalar does.
+fn check_timestamp(map: &[u8], position: usize) {
+    let stream = Part::stream(map);
+    let value = scalar(map, stream, position);
+    match timestamp(map, stream, position) {
+        Ok(TimestampOr::Timestamp(read)) => {
+            assert!(matches!(value, Ok(Scalar::Timestamp(_))));
+            assert!((1..=9999).contains(&read.year));
+        }
+        Ok(TimestampOr::Scalar(Scalar::Timestamp(_))) => panic!("a timestamp that isn't read"),
+        // The bits of a NaN are compared.
+        Ok(TimestampOr::Scalar(other)) => assert_eq!(format!("{other:?}"), format!("{:?}", value.unwrap())),
+        Err(refusal) => assert!(value.err().is_none_or(|value| value == refusal)),
     }
 }
 

@@ -1,8 +1,8 @@
 //! A short example of each function, with the maps at the edges.
 
 use ion_map::{
-    annotation, annotations, decimal, ids_begun, int, items, raw, scalar, step, step_in, var_int, var_uint, walk, walked, Body,
-    Item, Limits, Part, PartKind, Refusal, Scalar, Type,
+    annotation, annotations, decimal, ids_begun, int, items, raw, scalar, step, step_in, timestamp, var_int, var_uint, walk,
+    walked, Body, Item, Limits, Part, PartKind, Precision, Refusal, Scalar, Timestamp, TimestampOr, Type,
 };
 use std::error::Error;
 
@@ -382,6 +382,101 @@ fn decimals_in_a_map() {
     assert_eq!(split.to_string(), "-197121d-1");
 }
 
+fn stamp(map: &[u8]) -> Result<Timestamp, Refusal> {
+    match timestamp(map, Part::stream(map), 0)? {
+        TimestampOr::Timestamp(timestamp) => Ok(timestamp),
+        TimestampOr::Scalar(scalar) => panic!("{scalar:?}"),
+    }
+}
+
+#[test]
+fn timestamps() {
+    let year = stamp(&[0x63, 0xC0, 0x0F, 0xD0]).unwrap();
+    assert_eq!((year.precision, year.offset, year.year), (Precision::Year, None, 2000));
+    assert_eq!((year.month, year.day), (0, 0));
+    let fraction = [0x6B, 0x43, 0xA4, 0x0F, 0xE8, 0x82, 0x9D, 0x96, 0x9E, 0x8F, 0xC3, 0x07];
+    assert_eq!(
+        stamp(&fraction),
+        Ok(Timestamp {
+            precision: Precision::Fraction,
+            offset: Some(-420),
+            year: 2024,
+            month: 2,
+            day: 29,
+            hour: 22,
+            minute: 30,
+            second: 15,
+            coefficient: 7,
+            exponent: -3,
+        })
+    );
+    assert_eq!(stamp(&[0x63, 0x0B, 0xA0, 0x81]), Err(refusal(62, 0)));
+    assert_eq!(stamp(&[0x65, 0x80, 0x80, 0x80, 0x80, 0x80]), Err(refusal(61, 0)));
+    assert_eq!(stamp(&[0xE5, 0x81, 0x84, 0x62, 0x80, 0x80]), Err(refusal(62, 3)));
+    assert_eq!(stamp(&[0x65, 0x80, 0x0E, 0xEC, 0x82, 0x9D]), Err(refusal(62, 0)));
+    assert_eq!(stamp(&[0x62, 0x80, 0x00]), Err(refusal(3, 3)));
+    assert_eq!(stamp(&[0x61, 0x80]), Err(refusal(31, 0)));
+
+    let other = |map| timestamp(map, Part::stream(map), 0);
+    assert_eq!(other(&[0x6F]), Ok(TimestampOr::Scalar(Scalar::Null(Type::Timestamp))));
+    assert_eq!(other(&[0x81, 0x61]), Ok(TimestampOr::Scalar(Scalar::String("a"))));
+    assert_eq!(other(&[0x12]), Err(refusal(33, 0)));
+}
+
+#[test]
+fn timestamps_as_text() {
+    let text = |map: &[u8]| stamp(map).map(|timestamp| timestamp.to_rfc3339());
+    let some = |text: &str| Ok(Some(text.to_string()));
+    assert_eq!(text(&[0x63, 0xC0, 0x0F, 0xD0]), Ok(None));
+    assert_eq!(text(&[0x65, 0xC0, 0x0F, 0xD0, 0x81, 0x81]), some("2000-01-01"));
+    assert_eq!(text(&[0x67, 0x80, 0x0F, 0xD0, 0x81, 0x81, 0x80, 0x80]), Ok(None));
+    let second = |offset: &[u8], rest: &[u8]| {
+        let body = [offset, &[0x0F, 0xD0], rest].concat();
+        let map = [&[0x60 + body.len() as u8], &body[..]].concat();
+        text(&map)
+    };
+    assert_eq!(
+        second(&[0x80], &[0x81, 0x81, 0x80, 0x80, 0x80]),
+        some("2000-01-01T00:00:00Z")
+    );
+    assert_eq!(
+        second(&[0xC0], &[0x81, 0x81, 0x80, 0x80, 0x80]),
+        some("2000-01-01T00:00:00-00:00")
+    );
+    assert_eq!(
+        second(&[0xC1], &[0x81, 0x81, 0x80, 0x80, 0x80]),
+        some("1999-12-31T23:59:00-00:01")
+    );
+    assert_eq!(
+        second(&[0xC1], &[0x83, 0x81, 0x80, 0x80, 0x80]),
+        some("2000-02-29T23:59:00-00:01")
+    );
+    assert_eq!(
+        second(&[0x81], &[0x82, 0x9D, 0x97, 0xBB, 0x80]),
+        some("2000-03-01T00:00:00+00:01")
+    );
+    assert_eq!(
+        second(&[0x80], &[0x81, 0x81, 0x80, 0x80, 0x80, 0xC3, 0x07]),
+        some("2000-01-01T00:00:00.007Z")
+    );
+    assert_eq!(
+        second(&[0x80], &[0x81, 0x81, 0x80, 0x80, 0x80, 0x85]),
+        some("2000-01-01T00:00:00Z")
+    );
+    // A zero of over a thousand places.
+    assert_eq!(
+        second(&[0x80], &[0x81, 0x81, 0x80, 0x80, 0x80, 0x40, 0x7F, 0xFF]),
+        Ok(None)
+    );
+    // 9999-12-31T23:59:00Z, a minute ahead: the local year is 10000.
+    assert_eq!(text(&[0x68, 0x81, 0x4E, 0x8F, 0x8C, 0x9F, 0x97, 0xBB, 0x80]), Ok(None));
+    // 0001-01-01T00:00:00Z, a minute behind: the local year is 0.
+    assert_eq!(
+        text(&[0x67, 0xC1, 0x81, 0x81, 0x81, 0x80, 0x80, 0x80]),
+        some("0000-12-31T23:59:00-00:01")
+    );
+}
+
 #[test]
 fn walks() {
     let map = [0xE0, 0x01, 0x00, 0xEA, 0xB3, 0x21, 0x07, 0x00];
@@ -519,7 +614,7 @@ fn limits_of_depth() {
 fn refusals_in_words() {
     let known = (1..=9)
         .chain(20..=37)
-        .chain([50, 51, 52, 54, 60, 68, Refusal::UNKNOWN_ANSWER]);
+        .chain([50, 51, 52, 54, 60, 61, 62, 63, 68, Refusal::UNKNOWN_ANSWER]);
     let unknown = refusal(10, 0).words();
     for number in known {
         assert_ne!(refusal(number, 0).words(), unknown, "{number}");

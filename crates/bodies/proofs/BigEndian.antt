@@ -3,9 +3,9 @@
 use Prim.Native.Nat.{ℕ, zero, suc, _+_, _-_, _*_, _^_, _≤_, _<_}
 use native.Mathlib.Omega.{arith}
 use native.Mathlib.Numerals.{add-one}
-use native.Mathlib.Nat.{pow-suc, mul-assoc, mul-comm, add-mul, pow-le-pow-right, lt-of-lt-of-le}
+use native.Mathlib.Nat.{pow-suc, mul-assoc, mul-comm, add-mul, pow-le-pow-right, lt-of-lt-of-le, mul-le-mul-right}
 use mathlib.Core.Path.{_≡_, refl, ap}
-use mathlib.Core.List.{List}
+use mathlib.Core.List.{List, _∷_}
 use lib.ListN.{length, getD}
 use lib.Dec.{ltb}
 use borrow.Author.Tests.{le-ltb}
@@ -40,6 +40,21 @@ before-none s v end = rw (part-none s end) (omega arith)
 pub before-zero : (bs : List ℕ) → before 0 bs ≡ uintOf bs
 unfolding before
 before-zero bs = omega arith
+
+-- the bytes of a number behind its first digit
+pub before-digits : (v : ℕ) (bs : List ℕ) → ofDigits 256 (v ∷ bs) ≡ before v bs
+unfolding before uintOf ofDigits
+before-digits v bs = refl
+
+-- from 2 ^ 56 up, one byte more makes 2 ^ 64
+pub before-large : (s : List ℕ) (v at end : ℕ) → at < end → end ≤ length s → 256 ^ 7 ≤ v → 256 ^ 8 ≤ before v (part s at end)
+unfolding before
+before-large s v at end h k l =
+    let n : ℕ = length (part s at end) in
+    let m : 1 ≤ n = omega (arith, part-length s at end k) in
+    let p : 256 ^ 1 ≤ 256 ^ n = pow-le-pow-right {n = 256} (omega arith) {i = 1} {j = n} m in
+    let q : 256 ^ 7 * 256 ^ n ≤ v * 256 ^ n = mul-le-mul-right (256 ^ n) l in
+    omega arith
 
 -- n bytes and one more are below 256 ^ (n + 1), which is at most 2 ^ 64 for eight
 pub byte-more : (v b n : ℕ) → v < 256 ^ n → b < 256 → v * 256 + b < 256 ^ (n + 1)

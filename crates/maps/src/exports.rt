@@ -11,10 +11,11 @@ ghost use Rattle.bodies.specs.Decimal.{decimal};
 ghost use Rattle.stepping.specs.Answers.{answerAt};
 ghost use Rattle.stepping.specs.Read.{itemRead};
 ghost use Rattle.values.specs.Scalars.{stepIn, readScalar, readWithValue};
+ghost use Rattle.values.specs.Timestamps.{readTimestamp};
 ghost use Rattle.walking.specs.Walk.{wholeWalk};
 ghost use Rattle.walking.specs.Calls.{itemsIn};
 ghost use Rattle.records.specs.Buffer.{recordIn, returned};
-ghost use Rattle.records.specs.Words.{words, annotationWords, bodyWords, readingWords, numberWords, decimalWords};
+ghost use Rattle.records.specs.Words.{words, annotationWords, bodyWords, readingWords, numberWords, decimalWords, timestampWords};
 ghost use Rattle.maps.specs.Private.Inside.{ShortAt};
 ghost use Rattle.maps.specs.Exported.{exportedStep, exportedIds, exportedAnnotation, exportedBody, numberBy, exportedNumber};
 use crate::inside;
@@ -46,6 +47,7 @@ use records::words::number_words;
 use records::words::outside_words;
 use records::words::refused_words;
 use records::words::scalar_words;
+use records::words::timestamp_words;
 use stepping::cursor::Item;
 use stepping::cursor::Named;
 use stepping::cursor::Rules;
@@ -55,6 +57,7 @@ use stepping::cursor::read_name;
 use stepping::cursor::rules_of;
 use values::value::ValueRead;
 use values::value::open;
+use values::value::read_timestamp;
 use values::value::read_with_value;
 use values::value::value_in;
 use walking::walk::count_items;
@@ -326,4 +329,23 @@ pub extern "C" fn ion_map_decimal(map: &[u8], start: usize, end: usize, out: &mu
     ensures { λ _. ⌜ now (out .exit) ≡ recordIn (decimalWords start (decimal (now (map .entry)) start end)) (now (out .entry)) ⌝ }
 {
     put_record(out, decimal_words(start, read_decimal(map, start, end)))
+}
+
+// Reads the value at `position` of the part start..end, and what it says where it is a timestamp.
+#[no_mangle]
+pub extern "C" fn ion_map_timestamp(
+    map: &[u8],
+    start: usize,
+    end: usize,
+    position: usize,
+    limit: usize,
+    out: &mut [u8],
+) -> u64
+    ensures { λ r. ⌜ r ≡ returned (now (out .entry)) (readTimestamp limit (now (map .entry)) start end position) ⌝ }
+    ensures { λ _. ⌜ now (out .exit) ≡ recordIn (timestampWords (readTimestamp limit (now (map .entry)) start end position)) (now (out .entry)) ⌝ }
+{
+    put_record(
+        out,
+        timestamp_words(read_timestamp(map, start, end, position, limit)),
+    )
 }

@@ -10,6 +10,7 @@ use maps::exports::ion_map_number;
 use maps::exports::ion_map_scalar;
 use maps::exports::ion_map_step;
 use maps::exports::ion_map_step_in;
+use maps::exports::ion_map_timestamp;
 use maps::exports::ion_map_walked;
 use maps::steps::ion_map_steps;
 use questions::text::Line;
@@ -135,6 +136,16 @@ fn called(line: &[u8], map: &[u8], out: &mut [u8]) -> Line {
     }
     if check::same(asked, b"scalar") {
         return Line::new().number(ion_map_scalar(
+            map,
+            start,
+            end,
+            position,
+            number_or(line, 6, ANNOTATION_LIMIT),
+            out,
+        ));
+    }
+    if check::same(asked, b"timestamp") {
+        return Line::new().number(ion_map_timestamp(
             map,
             start,
             end,

@@ -12,7 +12,7 @@ use lib.Dec.{eqb, ltb}
 use borrow.Author.Tests.{eq-eqb, ne-eqb, eqb-true, eqb-false, ltb-false}
 use Rattle.numbers.specs.Outcome.{Outcome, gives, refuses, refuseIf, pick, andThen}
 use Rattle.numbers.specs.Bytes.{part}
-use Rattle.numbers.specs.Answers.{mostBytes, Signed, Fixed, signed, lastByte, varNumber, varInt, int}
+use Rattle.numbers.specs.Answers.{mostBytes, Unsigned, Signed, Fixed, unsigned, signed, lastByte, varNumber, varUInt, varInt, int}
 use Rattle.numbers.proofs.Outcomes.{by-case, inside}
 use Rattle.numbers.proofs.Parts.{part-length, part-at}
 use Rattle.numbers.proofs.LastByte.{Found, found, last-is, last-high}
@@ -42,6 +42,9 @@ pub same-moved : (n a b : ℕ) → eqb (n + a) (n + b) ≡ eqb a b
 same-moved n a b =
     by-case (eqb a b) (λ e. rw (e, eq-eqb (n + a) (n + b) (omega (arith, eqb-true a b e))))
     (λ e. rw (e, ne-eqb (n + a) (n + b) (λ q. eqb-false a b e (omega arith))))
+
+abbrev pub movedUnsigned : ℕ → Unsigned → Unsigned
+movedUnsigned n u = record { value = u .value; next = n + u .next }
 
 abbrev pub movedSigned : ℕ → Signed → Signed
 movedSigned n i = record { negative = i .negative; magnitude = i .magnitude; next = n + i .next }
@@ -99,6 +102,11 @@ module _ (s t : List ℕ) (n at end : ℕ) (order : at ≤ end) (k : end ≤ len
 
       further : n + l + 1 ≡ n + (l + 1)
       further = omega arith
+
+  pub var-uint-moved : Moved n (movedUnsigned n) (varUInt s at end) (varUInt t (n + at) (n + end))
+  unfolding varUInt
+  var-uint-moved =
+      number-moved 3 (unsigned s at) (unsigned t (n + at)) (λ next h. rw (part-moved at next (omega arith) h))
 
   pub var-int-moved : Moved n (movedSigned n) (varInt s at end) (varInt t (n + at) (n + end))
   unfolding varInt

@@ -65,6 +65,12 @@ pub const BAD_UTF8: u64 = 36;
 pub const TOO_DEEP: u64 = 37;
 // A marker that isn't 1.0.
 pub const NOT_VERSION_1_0: u64 = 60;
+// A timestamp's hour with no minute.
+pub const HOUR_WITHOUT_MINUTE: u64 = 61;
+// A timestamp's field, offset or fraction out of range.
+pub const TIMESTAMP_OUT_OF_RANGE: u64 = 62;
+// A timestamp's coefficient whose magnitude has over 8 bytes.
+pub const COEFFICIENT_TOO_LONG: u64 = 63;
 // A symbol table with imports.
 pub const HAS_IMPORTS: u64 = 64;
 // A symbol table with a second list of symbols.

@@ -11,8 +11,9 @@ use Rattle.framing.specs.Answers.{Annotated, ident, finished}
 use Rattle.bodies.specs.Decimal.{Split}
 use Rattle.stepping.specs.Items.{Item, finish, marker, value, field}
 use Rattle.values.specs.Scalars.{valueIn, Opened, opened, Scalar, scalarOf, readScalar, withValue, readWithValue}
+use Rattle.values.specs.Timestamps.{Dated, stamped, other}
 use Rattle.records.specs.FirstWords.{enteredAt, enter, Number}
-use Rattle.records.specs.Words.{words, annotationWords, bodyWords, scalarWords, readingWords, numberWords, decimalWords}
+use Rattle.records.specs.Words.{words, annotationWords, bodyWords, scalarWords, readingWords, numberWords, decimalWords, timestampWords}
 use Rattle.records.specs.Buffer.{recordSize, numberOf, returned, numberIn, returnedBy}
 
 pub step-number : (o : Outcome Item) → numberIn (words o) ≡ numberOf o
@@ -62,6 +63,12 @@ pub decimal-number : (start : ℕ) (o : Outcome Split) → numberIn (decimalWord
 unfolding numberIn
 decimal-number start (gives d) = refl
 decimal-number start (refuses n p) = refl
+
+pub timestamp-number : (o : Outcome Dated) → numberIn (timestampWords o) ≡ numberOf o
+unfolding numberIn
+timestamp-number (gives (stamped d t)) = refl
+timestamp-number (gives (other v x)) = refl
+timestamp-number (refuses n p) = refl
 
 -- what a call that puts an answer's words returns
 pub returned-by : {A : Type 0} (ws old : List ℕ) (o : Outcome A) → numberIn ws ≡ numberOf o → returnedBy ws old ≡ returned old o

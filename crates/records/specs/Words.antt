@@ -1,13 +1,15 @@
 -- The words of each kind of record: the scope paper's eight (FirstWords.antt), and behind them word 8 of the change request A.6.
 -- Assumes nothing.
-use Prim.Native.Nat.{ℕ, _-_}
+use Prim.Native.Nat.{ℕ, _+_, _-_, _*_, _^_}
 use mathlib.Core.List.{List, [], _∷_, _++_}
 use Rattle.numbers.specs.Outcome.{Outcome, gives, refuses}
 use Rattle.framing.specs.Spans.{Spans}
 use Rattle.framing.specs.Answers.{Annotated}
 use Rattle.bodies.specs.Decimal.{Split}
+use Rattle.bodies.specs.declared.timestamp.Stamp.{Stamp}
 use Rattle.stepping.specs.Items.{Item, finish, marker, value, field}
 use Rattle.values.specs.Scalars.{Scalar, ReadValue, spanOf}
+use Rattle.values.specs.Timestamps.{Dated, stamped, other}
 use Rattle.records.specs.FirstWords.{Entered, oneIf, Number}
 use Rattle.records.specs.FirstWords as first
 
@@ -81,3 +83,30 @@ decimalWords start (gives d) =
     ∷ 0
     ∷ []
 decimalWords start (refuses number at) = refusedWords number at
+
+-- ---- timestamps, A.4
+
+-- year + 2^16 month + 2^24 day + 2^32 hour + 2^40 minute + 2^48 second, absent ones 0
+unfoldable pub fieldsWord : ℕ → ℕ → ℕ → ℕ → ℕ → ℕ → ℕ
+fieldsWord year month day hour minute second =
+    year + 2 ^ 16 * month + 2 ^ 24 * day + 2 ^ 32 * hour + 2 ^ 40 * minute + 2 ^ 48 * second
+
+-- kind 11, how far it goes, the descriptor's position, the offset, the fields, the exponent's magnitude, 1 where that is negative, the coefficient, 0
+abbrev pub stampWords : ℕ → Stamp → List ℕ
+stampWords descriptor t =
+    11
+    ∷ t .precision
+    ∷ descriptor
+    ∷ t .offset
+    ∷ fieldsWord (t .year) (t .month) (t .day) (t .hour) (t .minute) (t .second)
+    ∷ t .exponent
+    ∷ oneIf (t .«exponent_negative»)
+    ∷ t .coefficient
+    ∷ 0
+    ∷ []
+
+-- a null or another type as the scalar reading
+abbrev pub timestampWords : Outcome Dated → List ℕ
+timestampWords (gives (stamped descriptor t)) = stampWords descriptor t
+timestampWords (gives (other v x)) = scalarWords v (gives x)
+timestampWords (refuses number at) = refusedWords number at

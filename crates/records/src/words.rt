@@ -6,12 +6,13 @@ ghost use Rattle.numbers.specs.Outcome.{andThen};
 ghost use Rattle.framing.specs.Read.{annotationRead, spansOf};
 ghost use Rattle.bodies.specs.Decimal.{decimalRead};
 ghost use Rattle.stepping.specs.Read.{itemRead};
-ghost use Rattle.values.specs.Read.{bodyRead, scalarRead};
+ghost use Rattle.values.specs.Read.{bodyRead, scalarRead, datedRead};
 ghost use Rattle.records.specs.FirstWords.{enteredAt, oneIf};
-ghost use Rattle.records.specs.Words.{words, valueWords, endWords, refusedWords, annotationWords, bodyWords, scalarWords, decimalWords};
+ghost use Rattle.records.specs.Words.{words, valueWords, endWords, refusedWords, annotationWords, bodyWords, scalarWords, decimalWords, fieldsWord, stampWords, timestampWords};
 use crate::buffer::RECORD_WORDS;
 use crate::buffer::REFUSED;
 use bodies::decimal::Decimal;
+use bodies::timestamp::Stamp;
 use framing::annotations_iterator::Annotation;
 use framing::encoded_value::EncodedValue;
 use numbers::refusal::OUTSIDE;
@@ -20,6 +21,7 @@ use stepping::cursor::Item;
 use stepping::cursor::part_kind;
 use values::value::Body;
 use values::value::Scalar;
+use values::value::TimestampRead;
 
 fn wide(x: u8) -> u64
     ensures { λ r. ⌜ r ≡ x ⌝ }
@@ -250,5 +252,56 @@ pub fn decimal_words(start: usize, decimal: Decimal) -> [u64; RECORD_WORDS]
             0,
         ],
         Decimal::Refused(refusal) => refused_words(refusal),
+    }
+}
+
+fn wide_year(x: u16) -> u64
+    ensures { λ r. ⌜ r ≡ x ⌝ }
+{
+    x as u64
+}
+
+// A timestamp's fields in one word.
+fn fields_word(year: u16, month: u8, day: u8, hour: u8, minute: u8, second: u8) -> u64
+    ensures { λ r. ⌜ r ≡ fieldsWord year month day hour minute second ⌝ }
+{
+    let date = wide_year(year) + 0x1_0000 * wide(month) + 0x100_0000 * wide(day);
+    let time = 0x1_0000_0000 * wide(hour) + 0x100_0000_0000 * wide(minute);
+    date + time + 0x1_0000_0000_0000 * wide(second)
+}
+
+// The words of what a timestamp says.
+fn stamp_words(descriptor: usize, stamp: Stamp) -> [u64; RECORD_WORDS]
+    ensures { λ r. ⌜ r ≡ stampWords descriptor stamp ⌝ }
+{
+    let fields = fields_word(
+        stamp.year,
+        stamp.month,
+        stamp.day,
+        stamp.hour,
+        stamp.minute,
+        stamp.second,
+    );
+    [
+        11,
+        wide(stamp.precision),
+        descriptor as u64,
+        wide_year(stamp.offset),
+        fields,
+        stamp.exponent as u64,
+        one_if(stamp.exponent_negative),
+        stamp.coefficient,
+        0,
+    ]
+}
+
+// The words of a reading of a timestamp, and of any other value.
+pub fn timestamp_words(read: TimestampRead) -> [u64; RECORD_WORDS]
+    ensures { λ r. ⌜ r ≡ timestampWords (datedRead read) ⌝ }
+{
+    match read {
+        TimestampRead::Stamped { descriptor, stamp } => stamp_words(descriptor, stamp),
+        TimestampRead::Other { value, scalar } => scalar_words(value, scalar),
+        TimestampRead::Refused(refusal) => refused_words(refusal),
     }
 }

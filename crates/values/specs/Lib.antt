@@ -1,4 +1,5 @@
 pub mod Scalars
+pub mod Timestamps
 pub mod Meaning
 pub mod Read
 pub mod Edges

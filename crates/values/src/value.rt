@@ -1,18 +1,23 @@
-// The entries on a value: stepping into a container, and reading a scalar.
+// The entries on a value: stepping into a container, reading a scalar, and reading a timestamp.
 //
 // Each takes a part of the slice, start..end, the position in it of the value's wrapper or descriptor, and the most bytes that a value's annotations may have.
 ghost use mathlib.Core.Path.{_≡_};
 ghost use Prim.Native.Nat.{_≤_, _<_};
 ghost use lib.ListN.{length};
 ghost use lib.Dec.{eqb};
-ghost use Rattle.numbers.specs.Outcome.{gives, refuses, pick};
+ghost use Rattle.numbers.specs.Outcome.{gives, refuses, pick, andThen};
+ghost use Rattle.bodies.specs.Timestamp.{timestamp};
 ghost use Rattle.framing.specs.Read.{framedRead, spansOf};
 ghost use Rattle.stepping.specs.Read.{itemRead};
 ghost use Rattle.values.specs.Scalars.{null, valueIn, isContainer, opened, stepIn, boolOf, positiveOf, negativeOf, floatOf, symbolOf, stringOf, typedOf, scalarOf, readScalar, readWithValue, spanOf, scalarPart};
-ghost use Rattle.values.specs.Read.{bodyRead, scalarRead, valueRead};
+ghost use Rattle.values.specs.Timestamps.{isTimestamp, stampedAt, timestampOf, readTimestamp};
+ghost use Rattle.values.specs.Read.{bodyRead, scalarRead, valueRead, datedRead};
 ghost use Rattle.values.specs.Private.Values.{valueFrom};
 use bodies::float::widen;
 use bodies::magnitude::significant;
+use bodies::timestamp::Stamp;
+use bodies::timestamp::Timestamp;
+use bodies::timestamp::read_timestamp as read_body;
 use bodies::uint::uint_of;
 use bodies::utf8::is_utf8;
 use framing::encoded_value::EncodedValue;
@@ -90,6 +95,15 @@ pub enum Scalar {
 // A value's spans with what it is read as.
 pub enum ValueRead {
     Read { value: EncodedValue, scalar: Scalar },
+    Refused(Refusal),
+}
+
+// What a value is read as where timestamps are read.
+pub enum TimestampRead {
+    // A timestamp: where its descriptor stands, and what it says.
+    Stamped { descriptor: usize, stamp: Stamp },
+    // A null or another type: its spans and its scalar.
+    Other { value: EncodedValue, scalar: Scalar },
     Refused(Refusal),
 }
 
@@ -346,6 +360,55 @@ pub fn read(s: &[u8], start: usize, end: usize, at: usize, limit: usize) -> Scal
     match read_with_value(s, start, end, at, limit) {
         ValueRead::Read { value: _, scalar } => scalar,
         ValueRead::Refused(refusal) => Scalar::Refused(refusal),
+    }
+}
+
+// Whether a value is a timestamp, and not null.
+fn is_timestamp(value: EncodedValue) -> bool
+    ensures { λ r. ⌜ r ≡ isTimestamp (spansOf value) ⌝ }
+{
+    if value.byte % 16 == 15 {
+        false
+    } else {
+        value.byte / 16 == 6
+    }
+}
+
+// What the timestamp says whose descriptor stands there and whose body is body..end.
+fn stamp_of(s: &[u8], descriptor: usize, body: usize, end: usize) -> TimestampRead
+    ensures { λ r. ⌜ datedRead r ≡ andThen (timestamp descriptor (now (s .entry)) body end) (stampedAt descriptor) ⌝ }
+{
+    match read_body(s, body, end, descriptor) {
+        Timestamp::Value(stamp) => TimestampRead::Stamped { descriptor, stamp },
+        Timestamp::Refused(refusal) => TimestampRead::Refused(refusal),
+    }
+}
+
+// What a value is read as where timestamps are read.
+fn timestamp_of(s: &[u8], value: EncodedValue) -> TimestampRead
+    requires { ⌜ (value .body ≤ value .end) × (value .end ≤ length (now s)) ⌝ }
+    ensures { λ r. ⌜ datedRead r ≡ timestampOf (now (s .entry)) (spansOf value) ⌝ }
+{
+    if is_timestamp(value) {
+        return stamp_of(s, value.descriptor, value.body, value.end);
+    }
+    let scalar = scalar_of(s, value);
+    TimestampRead::Other { value, scalar }
+}
+
+// Reads the value at `at`, and what it says where it is a timestamp.
+pub fn read_timestamp(
+    s: &[u8],
+    start: usize,
+    end: usize,
+    at: usize,
+    limit: usize,
+) -> TimestampRead
+    ensures { λ r. ⌜ datedRead r ≡ readTimestamp limit (now (s .entry)) start end at ⌝ }
+{
+    match value_in(s, start, end, at, limit) {
+        Framed::Value(value) => timestamp_of(s, value),
+        Framed::Refused(refusal) => TimestampRead::Refused(refusal),
     }
 }
 

@@ -5,6 +5,7 @@ mod frame_questions;
 mod number_questions;
 mod scalar_questions;
 mod step_questions;
+mod timestamp_questions;
 mod walk_questions;
 
 use questions::comparing;
@@ -53,6 +54,10 @@ fn answer(line: &[u8]) -> Line {
     let on_decimals = decimal_questions::answer(asked, s, a, b);
     if 0 < on_decimals.len {
         return on_decimals;
+    }
+    let on_timestamps = timestamp_questions::answer(asked, s, a, b, c);
+    if 0 < on_timestamps.len {
+        return on_timestamps;
     }
     if check::same(asked, b"walk") {
         return walk_questions::walk(

@@ -5,6 +5,7 @@ use oracle::asking::{
     Annotation, Decimal, Item, Limits, Number, Opened, Reading, Refusal, Scalar, Spans,
 };
 use oracle::requests::Request;
+use oracle::timestamps::{Instant, MOST_PLACES};
 use oracle::IonType;
 
 /// Words, some of which the Rust leaves open, and a test of those.
@@ -34,6 +35,8 @@ enum Test {
     Magnitude(u128),
     /// An Int: seven bits and the bytes after them.
     Further(u128),
+    /// A timestamp's precision, the fraction taken as a second's, and its fraction by its value.
+    Instant(u64, u64),
     /// Annotations that the Rust refuses, by a higher limit.
     HigherLimit,
 }
@@ -235,6 +238,16 @@ impl Expected {
         ])
     }
 
+    pub fn instant(descriptor: usize, instant: Instant) -> Self {
+        let shifted = instant.fields.iter().zip([0, 16, 24, 32, 40, 48]);
+        let fields = shifted.fold(0, |word, (field, shift)| word | field << shift);
+        Expected::except(
+            [11, 0, descriptor as u64, instant.offset, fields, 0, 0, 0, 0],
+            &[1, 5, 6, 7],
+            Test::Instant(instant.precision, instant.attoseconds),
+        )
+    }
+
     pub fn decimal(map: &[u8], part: Part, decimal: Decimal) -> Self {
         let exponent = decimal.exponent;
         let first = map[decimal.coefficient..part.end].first().copied();
@@ -382,8 +395,23 @@ impl Test {
                 Some(bytes) => word < 0x80 && folded(word as u128, bytes) == Some(magnitude),
                 None => false,
             },
+            Test::Instant(precision, attoseconds) => {
+                number.min(5) == precision && attoseconds_of(record) == Some(attoseconds)
+            }
             Test::HigherLimit => is_by_limit(map, part, record),
         }
+    }
+}
+
+/// A timestamp's fraction, where it has at most 18 places.
+fn attoseconds_of(record: Record) -> Option<u64> {
+    let [_, precision, _, _, _, exponent, is_negative, coefficient, _] = record.0;
+    match (coefficient, is_negative) {
+        (0, _) => Some(0),
+        (_, 1) if precision == 6 && exponent <= MOST_PLACES => {
+            coefficient.checked_mul(10u64.pow((MOST_PLACES - exponent) as u32))
+        }
+        _ => None,
     }
 }
 
@@ -394,9 +422,9 @@ fn is_by_limit(map: &[u8], part: Part, record: Record) -> bool {
     let within = Limits::USUAL.annotations + 1..=part.limits.annotations;
     match kind {
         2 | 3 => within.contains(&(descriptor.wrapping_sub(annotations) as usize)),
-        6 | 7 => true,
+        6 | 7 | 11 => true,
         9 if number == 26 => is_over_limit(map, part, position as usize),
-        9 => matches!(number, 1 | 3 | 8 | 20 | 22 | 27..=36 | 52),
+        9 => matches!(number, 1 | 3 | 4 | 8 | 20 | 22 | 27..=36 | 52 | 61..=63),
         _ => false,
     }
 }
@@ -461,7 +489,7 @@ pub fn may_stand(number: u64, map: &[u8], part: Part, at: usize) -> bool {
         23..=27 | 29 => is_wrapper,
         28 => is_pad,
         30 => byte >> 4 == 4,
-        31 => byte >> 4 == 6,
+        31 | 61 => byte >> 4 == 6,
         32 => byte == 0xD1,
         33 => byte >> 4 == 1,
         34 => byte >> 4 == 3,

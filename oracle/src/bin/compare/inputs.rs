@@ -112,6 +112,7 @@ pub fn ask_at<R: Reader>(session: &mut Session<R>, map: &[u8], part: Part) {
     }
     session.ask(map, Ask::Ids, part);
     session.ask(map, Ask::Scalar, part);
+    session.ask(map, Ask::Timestamp, part);
     session.ask(map, Ask::StepIn, part);
     session.ask(map, Ask::Annotations, part);
     session.ask(map, Ask::Number(VAR_UINT, 0), part);
@@ -302,7 +303,8 @@ fn at_boundary(random: &mut Random, number: usize) -> Vec<u8> {
         9 => wrapper(random),
         10 if random.one_in(2) => decimal(random),
         10 => numbers_only(random),
-        11 => marker(random),
+        11 if random.one_in(2) => marker(random),
+        11 => timestamp(random),
         _ => field(random),
     };
     placed(random, bytes)
@@ -521,6 +523,12 @@ fn decimal(random: &mut Random) -> Vec<u8> {
     }
 }
 
+/// A timestamp, most often one whose numbers can all be read.
+fn timestamp(random: &mut Random) -> Vec<u8> {
+    let body = random.timestamp_body();
+    random.framed(6, &plain(body), false).bytes
+}
+
 /// A marker whose numbers and last byte are as in version 1.0 or not, between other items.
 fn marker(random: &mut Random) -> Vec<u8> {
     let major = random.pick(&[0x01, 0x01, 0x01, 0x00, 0x02, 0x81, 0xEA, 0xFF]);
@@ -597,7 +605,7 @@ fn any_ask(random: &mut Random) -> Ask {
         1 => random.pick(&[4, 256, 1 << 32, u64::MAX, u64::MAX - 1]),
         _ => random.below(3) as u64,
     };
-    match random.below(17) {
+    match random.below(18) {
         0..=3 => Ask::Run(rules),
         4 | 5 => Ask::Batch(rules, random.from_to(RECORD, MOST_ROOM)),
         6 => random.pick(&[Ask::Annotations, Ask::Ids]),
@@ -607,6 +615,7 @@ fn any_ask(random: &mut Random) -> Ask {
         13 => Ask::Walk,
         14 => Ask::Walked(random.below(8) as u64),
         15 => Ask::Decimal,
+        16 => Ask::Timestamp,
         _ => Ask::Short(random.pick(&ENTRIES), random.below(RECORD)),
     }
 }

@@ -8,6 +8,8 @@ use crate::walking::Walk;
 use oracle::asking::{self, Annotations, Asked, Item, Line, Refusal, Rules};
 use oracle::lazy::expanded::EncodingContext;
 use oracle::requests::{self, Request, Steps, REQUESTS};
+use oracle::timestamps::{self, Stamp};
+use oracle::IonType;
 use std::ops::RangeInclusive;
 
 #[derive(Clone, Copy, Debug, PartialEq)]
@@ -213,6 +215,7 @@ impl<'a, R: Reader> Bench<'a, R> {
             Ask::Annotations => self.annotations(part),
             Ask::StepIn => self.step_in(part),
             Ask::Scalar => return self.scalar(part),
+            Ask::Timestamp => return self.timestamp(part),
             Ask::Number(INT, size) => return self.int(part, size),
             Ask::Number(form, _) => self.var_number(part, form),
             Ask::Decimal => return self.decimal(part),
@@ -394,6 +397,88 @@ impl<'a, R: Reader> Bench<'a, R> {
         }
     }
 
+    fn timestamp(&mut self, part: Part) -> Verdict {
+        let asked = self.asked(part);
+        let (expected, is_long) = match asking::scalar(&asked, part.position) {
+            Ok(reading) => match reading.scalar {
+                asking::Scalar::Part(IonType::Timestamp, body, end) => {
+                    return self.stamp(part, reading.spans.descriptor, body, end)
+                }
+                scalar => (
+                    Expected::scalar(self.map, reading),
+                    scalar == asking::Scalar::LongInt,
+                ),
+            },
+            Err(refusal) => {
+                let refusal = requests::refusal(&asked, refusal);
+                (Expected::refused(refusal), false)
+            }
+        };
+        let room = room_for(part);
+        let returned = self
+            .reader
+            .timestamp(self.map, part, self.desk.lend(room));
+        match self.check(part, room, returned, &expected) {
+            true if is_long => Verdict::Apart,
+            fine => self.verdict_of(fine),
+        }
+    }
+
+    /// A timestamp that isn't null, by its body.
+    fn stamp(&mut self, part: Part, descriptor: usize, body: usize, end: usize) -> Verdict {
+        let room = room_for(part);
+        let returned = self
+            .reader
+            .timestamp(self.map, part, self.desk.lend(room));
+        let record = self.desk.record();
+        let asked = Asked::new(self.context, self.map, body, end).expect("the body is inside");
+        let is_taken = record.kind() == 11 && returned == 0;
+        let is_refused = matches!(returned, 62 | 63)
+            && record.0 == [9, returned, descriptor as u64, 0, 0, 0, 0, 0, 0];
+        let stamp = match timestamps::timestamp(&asked) {
+            Ok(stamp) => stamp,
+            Err(refusal) => {
+                let part = Part {
+                    position: if refusal.number == 61 { descriptor } else { body },
+                    end,
+                    ..part
+                };
+                let fine = self.check(part, room, returned, &Expected::refused(refusal));
+                return self.verdict_of(fine);
+            }
+        };
+        let verdict = match stamp {
+            Stamp::Accepted(instant) if is_taken => {
+                let expected = Expected::instant(descriptor, instant);
+                let fine = self.check(part, room, returned, &expected);
+                return self.verdict_of(fine);
+            }
+            Stamp::Accepted(_) if is_refused && timestamps::only_there(&asked) => {
+                Verdict::Moved(Request::Ranges)
+            }
+            Stamp::Rejected if is_refused => Verdict::Agree,
+            Stamp::Rejected if is_taken && timestamps::only_here(&asked) => {
+                Verdict::Moved(Request::Ranges)
+            }
+            Stamp::Unasked if is_taken || is_refused => Verdict::Apart,
+            _ => Verdict::Differ,
+        };
+        if is_refused {
+            self.refusals.count(returned as usize, stamp != Stamp::Rejected);
+        }
+        let fine = verdict != Verdict::Differ && self.desk.is_untouched(RECORD, room);
+        self.desk.note(
+            fine,
+            || format!("{stamp:?}"),
+            || format!("{} returned {returned}", written(record)),
+        );
+        if fine {
+            verdict
+        } else {
+            Verdict::Differ
+        }
+    }
+
     fn var_number(&mut self, part: Part, form: u64) -> bool {
         let asked = self.asked(part).part();
         let number = if form == VAR_UINT {
@@ -556,6 +641,7 @@ impl<'a, R: Reader> Bench<'a, R> {
             Ask::Annotations => (Entry::Annotation, 0, 0),
             Ask::StepIn => (Entry::StepIn, 0, 0),
             Ask::Scalar => (Entry::Scalar, 0, 0),
+            Ask::Timestamp => (Entry::Timestamp, 0, 0),
             Ask::Number(form, size) => (Entry::Number, form, size),
             Ask::Decimal => (Entry::Decimal, 0, 0),
             Ask::Walk | Ask::Walked(_) | Ask::Ids | Ask::Short(..) => {
@@ -598,6 +684,7 @@ impl<'a, R: Reader> Bench<'a, R> {
             Entry::Annotation => reader.annotation(map, part, out),
             Entry::StepIn => reader.step_in(map, part, out),
             Entry::Scalar => reader.scalar(map, part, out),
+            Entry::Timestamp => reader.timestamp(map, part, out),
             Entry::Number => reader.number(map, part, kind, size, out),
             Entry::Decimal => reader.decimal(map, part, out),
         }

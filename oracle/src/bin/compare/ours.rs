@@ -62,6 +62,16 @@ mod exported {
             out: *mut u8,
             room: usize,
         ) -> u64;
+        pub fn ion_map_timestamp(
+            map: *const u8,
+            length: usize,
+            start: usize,
+            end: usize,
+            position: usize,
+            annotations: usize,
+            out: *mut u8,
+            room: usize,
+        ) -> u64;
         pub fn ion_map_number(
             map: *const u8,
             length: usize,
@@ -186,6 +196,7 @@ pub trait Reader {
     fn annotation(&self, map: &[u8], part: Part, out: &mut [u8]) -> u64;
     fn step_in(&self, map: &[u8], part: Part, out: &mut [u8]) -> u64;
     fn scalar(&self, map: &[u8], part: Part, out: &mut [u8]) -> u64;
+    fn timestamp(&self, map: &[u8], part: Part, out: &mut [u8]) -> u64;
     fn number(&self, map: &[u8], part: Part, form: u64, size: usize, out: &mut [u8]) -> u64;
     /// The body is the part from its position on.
     fn decimal(&self, map: &[u8], part: Part, out: &mut [u8]) -> u64;
@@ -271,6 +282,21 @@ impl Reader for Exports {
     fn scalar(&self, map: &[u8], part: Part, out: &mut [u8]) -> u64 {
         unsafe {
             exported::ion_map_scalar(
+                map.as_ptr(),
+                map.len(),
+                part.start,
+                part.end,
+                part.position,
+                part.limits.annotations,
+                out.as_mut_ptr(),
+                out.len(),
+            )
+        }
+    }
+
+    fn timestamp(&self, map: &[u8], part: Part, out: &mut [u8]) -> u64 {
+        unsafe {
+            exported::ion_map_timestamp(
                 map.as_ptr(),
                 map.len(),
                 part.start,

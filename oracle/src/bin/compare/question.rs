@@ -23,16 +23,18 @@ pub enum Entry {
     Annotation,
     StepIn,
     Scalar,
+    Timestamp,
     Number,
     Decimal,
 }
 
-pub const ENTRIES: [Entry; 7] = [
+pub const ENTRIES: [Entry; 8] = [
     Entry::Step,
     Entry::Steps,
     Entry::Annotation,
     Entry::StepIn,
     Entry::Scalar,
+    Entry::Timestamp,
     Entry::Number,
     Entry::Decimal,
 ];
@@ -47,6 +49,7 @@ pub enum Ask {
     Annotations,
     StepIn,
     Scalar,
+    Timestamp,
     /// A number of this form; an Int of so many bytes.
     Number(u64, usize),
     /// The decimal whose body is the part from its position on.
@@ -68,7 +71,7 @@ pub struct Question {
 }
 
 /// What is counted apart, in the order of the report.
-pub const KINDS: [&str; 17] = [
+pub const KINDS: [&str; 18] = [
     "runs of stream steps",
     "runs of sequence steps",
     "runs of struct steps",
@@ -86,6 +89,7 @@ pub const KINDS: [&str; 17] = [
     "short buffers (51)",
     "limits out of range (68)",
     "field IDs begun, by the pads counted",
+    "timestamps, and scalars as such",
 ];
 
 impl Question {
@@ -104,6 +108,7 @@ impl Question {
             Ask::Annotations => 4,
             Ask::StepIn => 5,
             Ask::Scalar => 6,
+            Ask::Timestamp => 17,
             Ask::Number(form, _) => 7 + form as usize,
             Ask::Decimal => 10,
             Ask::Walk => 11,
@@ -120,6 +125,7 @@ impl Question {
             Ask::Annotations | Ask::Short(Entry::Annotation, _) => &["ion_map_annotation"],
             Ask::StepIn | Ask::Short(Entry::StepIn, _) => &["ion_map_step_in"],
             Ask::Scalar | Ask::Short(Entry::Scalar, _) => &["ion_map_scalar"],
+            Ask::Timestamp | Ask::Short(Entry::Timestamp, _) => &["ion_map_timestamp"],
             Ask::Number(..) | Ask::Short(Entry::Number, _) => &["ion_map_number"],
             Ask::Decimal | Ask::Short(Entry::Decimal, _) => &["ion_map_decimal"],
             Ask::Walk => &["ion_map_step", "ion_map_step_in"],
@@ -193,6 +199,7 @@ impl fmt::Display for Ask {
             Ask::Annotations => write!(f, "annotations"),
             Ask::StepIn => write!(f, "stepin"),
             Ask::Scalar => write!(f, "scalar"),
+            Ask::Timestamp => write!(f, "timestamp"),
             Ask::Number(VAR_UINT, _) => write!(f, "varuint"),
             Ask::Number(VAR_INT, _) => write!(f, "varint"),
             Ask::Number(INT, size) => write!(f, "int of {size} bytes"),

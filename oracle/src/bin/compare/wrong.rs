@@ -84,6 +84,14 @@ mistakes! {
     CoefficientEarly "reads a decimal's coefficient from the exponent's last byte"
     EmptyDecimal "refuses an empty decimal"
     FromTheBody "counts a decimal's positions from its body's start"
+    // Timestamps.
+    OffsetTurned "gives a timestamp's offset with the other sign"
+    OffsetKnown "knows an offset where no hour follows"
+    MonthAndDay "gives a timestamp's month as its day"
+    HourAlone "says 62 of an hour with no minute"
+    FractionLost "gives no fraction of a second"
+    NullStamp "calls a null timestamp a timestamp"
+    StampAtWrapper "puts 61 to 63 of an annotated timestamp at its wrapper"
     // Scalars.
     QuietNan "sets the quiet bit of an 8-byte NaN"
     MinusZero "reads the float -0 as 0"
@@ -504,6 +512,33 @@ impl Wrong {
         put(out, words)
     }
 
+    fn changed_timestamp(&self, map: &[u8], part: Part, out: &mut [u8], given: u64) -> u64 {
+        let mut words = Record::read(out).0;
+        let [kind, precision, at, offset, fields, _, _, coefficient, _] = words;
+        match (self.mistake, kind) {
+            (Mistake::OffsetTurned, 11) if offset != 0 => words[3] = 2880 - offset,
+            (Mistake::OffsetKnown, 11) if precision < 4 => words[3] = 1440,
+            (Mistake::MonthAndDay, 11) if precision > 2 => {
+                let (month, day) = (fields >> 16 & 0xFF, fields >> 24 & 0xFF);
+                words[4] = fields & !0xFFFF_0000 | month << 24 | day << 16;
+            }
+            (Mistake::HourAlone, 9) if given == 61 => return refuse(out, 62, at as usize),
+            (Mistake::FractionLost, 11) if coefficient > 0 => {
+                (words[1], words[5], words[6], words[7]) = (5, 0, 0, 0)
+            }
+            (Mistake::NullStamp, 7) if precision == 0x6F => {
+                words = [11, 1, at, 0, 1, 0, 0, 0, 0];
+            }
+            (Mistake::StampAtWrapper, 9)
+                if (61..=63).contains(&given) && map[part.position] > 0xE0 =>
+            {
+                return refuse(out, given, part.position)
+            }
+            _ => return given,
+        }
+        put(out, words)
+    }
+
     fn changed_decimal(&self, map: &[u8], part: Part, out: &mut [u8], given: u64) -> u64 {
         let mut words = Record::read(out).0;
         let [kind, _, start, _, _, rest, end, exponent, _] = words;
@@ -720,6 +755,16 @@ impl Reader for Wrong {
             match returned {
                 50 | 51 | 68 => returned,
                 _ => self.changed_scalar(map, part, out, returned),
+            }
+        })
+    }
+
+    fn timestamp(&self, map: &[u8], part: Part, out: &mut [u8]) -> u64 {
+        self.with_limit(map, part, out, |part, out| {
+            let returned = Exports.timestamp(map, part, out);
+            match returned {
+                50 | 51 | 68 => returned,
+                _ => self.changed_timestamp(map, part, out, returned),
             }
         })
     }

@@ -333,6 +333,61 @@ pub fn decimals(q: &mut Questions) {
     q.fill(Kind::Decimals, 1300, 60);
 }
 
+pub fn timestamps(q: &mut Questions) {
+    // The document's, and each field at its limits and past them.
+    for body in words("C00FD0 C00FD081 C00FD08181 800FD081818080 800FD08181808080 800FD0818180808080") {
+        q.whole("instant", &body);
+    }
+    let fields: Vec<Vec<u8>> = words("0FD1 86 8F 8C 9E 9E");
+    let edges = [
+        "80 81 4E8F 4E90 1000000084",
+        "80 81 8C 8D 1000000081",
+        "80 81 9E 9F 1000000081",
+        "80 97 98 1000000080",
+        "80 BB BC 1000000080",
+        "80 BB BC 1000000080",
+    ];
+    for count in 1..=6 {
+        for at in 0..count {
+            for edge in words(edges[at]) {
+                let mut body = vec![0x80];
+                for (i, field) in fields[..count].iter().enumerate() {
+                    body.extend(if i == at { &edge } else { field });
+                }
+                q.whole("instant", &body);
+            }
+        }
+    }
+    // Offsets with and without an hour, and at the ends of years.
+    for offset in words("80 C0 81 C1 0B9F 4B9F 0BA0 4BA0 1000000080 40000080") {
+        for rest in words("81 818181 8181818080 4E8F8C9F97BB 0FD082818080 0FD0829D97BBBB 0FD1829C97BB 0FD183818080") {
+            q.whole("instant", &joined(&[&offset, &rest]));
+        }
+    }
+    // Leap days.
+    for year in words("81 84 E4 0190 0EEC 0FCE 0FD0 0FD1 0FD4 1034 1260 4E8C") {
+        for day in words("9C 9D 9E") {
+            q.whole("instant", &joined(&[&[0x80], &year, &[0x82], &day]));
+        }
+    }
+    // Fractions.
+    for exponent in words("80 C0 81 C1 C2 C3 C9 D1 D2 D3 D4 E8 85 407FFF 00") {
+        for coefficient in words("- 00 80 01 81 09 0A 63 64 03E7 03E8 0DE0B6B3A763FFFF 0DE0B6B3A7640000 7FFFFFFFFFFFFFFF 00FFFFFFFFFFFFFFFF 010000000000000000") {
+            q.whole("instant", &joined(&[&words("80818181808080")[0], &exponent, &coefficient]));
+        }
+    }
+    // Bodies that end too early, and parts inside slices.
+    let whole = words("800FD08C9F97BBBBC303E7").remove(0);
+    for end in 0..=whole.len() {
+        q.ask("instant", &joined(&[&whole, &[0x80, 0x81]]), &[0, end]);
+    }
+    let (max, bytes) = (usize::MAX, [0x80, 0x81]);
+    for (at, end) in [(1, 0), (0, 3), (3, 3), (3, 2), (2, max), (max, 2)] {
+        q.ask("instant", &bytes, &[at, end]);
+    }
+    q.fill(Kind::Timestamps, 1500, 60);
+}
+
 pub fn walks(q: &mut Questions) {
     for depth in [0, 1, 2, 28, 30, 31, 32, 33, 34, 37] {
         for _ in 0..2 {

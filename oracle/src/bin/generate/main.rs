@@ -1,7 +1,7 @@
 //! Makes questions. The same arguments always make the same questions.
 //!
 //! `generate SEED COUNT [KIND..]`: COUNT questions of the kinds named, or of all of them: numbers,
-//! frames, steps, scalars, decimals, walks, and short (every short string in order).
+//! frames, steps, scalars, decimals, timestamps, walks, and short (every short string in order).
 //! `generate list NAME`: the questions of the stored list of that name: edges by hand, then some
 //! made with a fixed seed.
 
@@ -22,6 +22,7 @@ enum Kind {
     Steps,
     Scalars,
     Decimals,
+    Timestamps,
     Walks,
     Short,
 }
@@ -32,6 +33,7 @@ const KINDS: &[(&str, Kind)] = &[
     ("steps", Kind::Steps),
     ("scalars", Kind::Scalars),
     ("decimals", Kind::Decimals),
+    ("timestamps", Kind::Timestamps),
     ("walks", Kind::Walks),
     ("short", Kind::Short),
 ];
@@ -264,10 +266,19 @@ impl Questions {
         self.ask(kind, &map.bytes, &[at, end, position]);
     }
 
-    /// A decimal's body, whole or with something missing, among other bytes.
     fn decimals(&mut self) {
+        let body = self.random.decimal_body();
+        self.body("decimal", body);
+    }
+
+    fn timestamps(&mut self) {
+        let body = self.random.timestamp_body();
+        self.body("instant", body);
+    }
+
+    /// A body, whole or with something missing, among other bytes.
+    fn body(&mut self, kind: &str, body: Vec<u8>) {
         let random = &mut self.random;
-        let body = random.decimal_body();
         let (before, behind) = (random.below(3), random.below(3));
         let bytes = joined(&[&random.bytes(before), &body, &random.bytes(behind)]);
         let (at, end) = match random.below(6) {
@@ -275,7 +286,7 @@ impl Questions {
             1 => (before, before + random.below(body.len() + 1)),
             _ => (before, before + body.len()),
         };
-        self.ask("decimal", &bytes, &[at, end]);
+        self.ask(kind, &bytes, &[at, end]);
     }
 
     fn walks(&mut self) {
@@ -325,6 +336,7 @@ impl Questions {
             Kind::Steps => self.steps(),
             Kind::Scalars => self.scalars(),
             Kind::Decimals => self.decimals(),
+            Kind::Timestamps => self.timestamps(),
             Kind::Walks => self.walks(),
             Kind::Short => self.short(),
         }
@@ -357,6 +369,7 @@ fn main() {
                 "steps" => lists::steps(&mut q),
                 "scalars" => lists::scalars(&mut q),
                 "decimals" => lists::decimals(&mut q),
+                "timestamps" => lists::timestamps(&mut q),
                 "walks" => lists::walks(&mut q),
                 _ => usage(),
             }
@@ -401,6 +414,6 @@ fn main() {
 
 fn usage() -> ! {
     eprintln!("usage: generate SEED COUNT [KIND..] or generate list NAME");
-    eprintln!("kinds: numbers frames steps scalars decimals walks short; names: all but the last");
+    eprintln!("kinds: numbers frames steps scalars decimals timestamps walks short; names: all but the last");
     std::process::exit(2)
 }

@@ -306,6 +306,77 @@ impl Random {
         joined(&[&exponent, &coefficient])
     }
 
+    /// A timestamp's body: its fields are within their ranges, at their limits or a little past them;
+    /// now and then one is wide, long, or has no last byte.
+    pub fn timestamp_body(&mut self) -> Vec<u8> {
+        let mut body = match self.below(8) {
+            0 => self.word("80 C0 0BA0 4B9F 0B9F 4BA0 4080 00000080"),
+            1 => self.number(),
+            _ => self.word("80 80 C0 C1 81 BC FC 02D4 43A4"),
+        };
+        let limits = [
+            (1, 9999, "80 81 82 0FD0 0FD0 0FD1 0ED8 0EEC 0F4E 4E8F 4E90"),
+            (1, 12, "80 81 81 82 82 83 84 8B 8C 8C 8D"),
+            (1, 31, "80 81 81 9B 9C 9D 9D 9E 9E 9F 9F A0"),
+            (0, 23, "80 80 97 97 98"),
+            (0, 59, "80 80 BB BB BC"),
+            (0, 59, "80 80 BB BB BC"),
+        ];
+        let count = self.pick(&[1, 2, 3, 3, 4, 5, 5, 6, 6, 6, 6, 6]);
+        for (low, high, edges) in &limits[..count] {
+            let field = match self.below(24) {
+                0 => self.number(),
+                1 => var_uint((1 << 32) + self.from_to(*low, *high) as u64, 1),
+                2..=9 => self.word(edges),
+                _ => var_uint(self.from_to(*low, *high) as u64, 1),
+            };
+            body.extend(field);
+        }
+        if count == 6 && !self.one_in(3) {
+            body.extend(self.fraction());
+        }
+        body
+    }
+
+    /// An exponent, most often of some places, and a coefficient near a power of ten or zero.
+    fn fraction(&mut self) -> Vec<u8> {
+        if self.one_in(4) {
+            return self.decimal_body();
+        }
+        let places = self.pick(&[0, 1, 1, 2, 3, 3, 6, 9, 12, 17, 18, 18, 19, 20, 21]);
+        let power = 10u128.pow(places);
+        let coefficient = match self.below(6) {
+            0 => 0,
+            1 => power,
+            2 => power + 1,
+            3 => self.bytes(8).iter().fold(0, |number, byte| number << 8 | *byte as u128),
+            4 => power - 1,
+            _ => power / 3,
+        };
+        let exponent = (if places == 0 { 0x80 } else { 0xC0 }) | places as u8;
+        let bytes = coefficient.to_be_bytes();
+        let first = bytes.iter().position(|byte| *byte != 0).unwrap_or(bytes.len() - 1);
+        // A byte before the first one has room for the sign.
+        let mut magnitude = joined(&[&[0], &bytes[first..]]);
+        if magnitude[1] < 0x80 {
+            magnitude.remove(0);
+        }
+        if self.one_in(8) {
+            magnitude[0] |= 0x80;
+        }
+        joined(&[&[exponent], &magnitude])
+    }
+
+    /// A number of any length up to eleven bytes, now and then without its last byte.
+    fn number(&mut self) -> Vec<u8> {
+        let count = self.from_to(1, 11);
+        let mut number: Vec<u8> = self.bytes(count).iter().map(|byte| byte & 0x7F).collect();
+        if !self.one_in(6) {
+            number[count - 1] |= 0x80;
+        }
+        number
+    }
+
     /// A value without annotations.
     pub fn plain(&mut self, limits: Limits) -> Map {
         let type_code = if limits.depth > 0 && self.one_in(3) {
