@@ -96,6 +96,25 @@ static void check_ids(void)
     check("IDs before the start", ion_map_ids(map, LENGTH, 9, 13, 8, LIMIT), 0);
 }
 
+static void check_whole_map(void)
+{
+    static const uint64_t counts[ION_MAP_CHECK_WORDS] = {ION_MAP_KIND_CHECKED, 1, 1, 0, 0, 1, 1, 1, 0, 0, 1, 0, 0, 0, 0, 1};
+    static const uint64_t deep[ION_MAP_CHECK_WORDS] = {ION_MAP_KIND_REFUSED, ION_MAP_REFUSAL_TOO_DEEP, 1};
+    static const uint8_t lists[] = {0xB1, 0xB0};
+    uint8_t out[ION_MAP_CHECK_SIZE];
+    size_t i;
+
+    check("check", ion_map_check(map, LENGTH, LIMIT, DEPTH, out, sizeof out), 0);
+    for (i = 0; i < ION_MAP_CHECK_WORDS; i++)
+        check("a count", ion_map_word(out, i), counts[i]);
+    check("check of a list at the depth", ion_map_check(lists, sizeof lists, LIMIT, 1, out, sizeof out), 37);
+    for (i = 0; i < ION_MAP_CHECK_WORDS; i++)
+        check("a word of its refusal", ion_map_word(out, i), deep[i]);
+    check("check of a cut map", ion_map_check(map, LENGTH - 1, LIMIT, DEPTH, out, sizeof out), 8);
+    check("check with a limit out of range", ion_map_check(map, LENGTH, LIMIT, 65, out, sizeof out), 68);
+    check("check with a short buffer", ion_map_check(map, LENGTH, LIMIT, DEPTH, out, sizeof out - 1), 51);
+}
+
 static void check_annotation_and_step_in(void)
 {
     static const words annotation = {ION_MAP_KIND_ANNOTATION, 0, 6, 4, 0, 0, 7, 0, 0};
@@ -296,6 +315,7 @@ int main(void)
 {
     check_step();
     check_ids();
+    check_whole_map();
     check_annotation_and_step_in();
     check_scalar();
     check_number();

@@ -146,7 +146,7 @@ enum {
 
     /* The caller's own. */
     ION_MAP_REFUSAL_OUTSIDE = 50,              /* not start <= position <= end <= map_len, or a kind or form above 2 - 0 */
-    ION_MAP_REFUSAL_RECORD_TOO_SHORT = 51,     /* out_len under ION_MAP_RECORD_SIZE; nothing is written - 0 */
+    ION_MAP_REFUSAL_RECORD_TOO_SHORT = 51,     /* out_len under ION_MAP_RECORD_SIZE (a check's: ION_MAP_CHECK_SIZE); nothing is written - 0 */
     ION_MAP_REFUSAL_INPUT_TOO_LONG = 54,       /* a walk's: more bytes than it takes - the most that it takes */
     ION_MAP_REFUSAL_LIMIT_OUT_OF_RANGE = 68    /* a limit that isn't from its least to its most, after 51, before 50 - 0 */
 };
@@ -227,7 +227,32 @@ enum {
     ION_MAP_KIND_SCALAR = 7,
     ION_MAP_KIND_NUMBER = 8,
     ION_MAP_KIND_DECIMAL = 10,
-    ION_MAP_KIND_TIMESTAMP = 11
+    ION_MAP_KIND_TIMESTAMP = 11,
+    ION_MAP_KIND_CHECKED = 12
+};
+
+/* The record of a check has sixteen words: kind, and then how many there are of each; a refusal's is kind, number,
+   position and zeros. */
+enum {
+    ION_MAP_CHECK_WORDS = 16,
+    ION_MAP_CHECK_SIZE = ION_MAP_CHECK_WORDS * ION_MAP_WORD_SIZE
+};
+enum {
+    ION_MAP_CHECK_MARKERS = 1,
+    ION_MAP_CHECK_PADS = 2, /* one each at every depth, also where nothing follows them */
+    ION_MAP_CHECK_NULLS = 3, /* null.null; the null of another type counts as that type */
+    ION_MAP_CHECK_BOOLS = 4,
+    ION_MAP_CHECK_INTS = 5, /* of both signs */
+    ION_MAP_CHECK_FLOATS = 6,
+    ION_MAP_CHECK_DECIMALS = 7,
+    ION_MAP_CHECK_TIMESTAMPS = 8,
+    ION_MAP_CHECK_SYMBOLS = 9,
+    ION_MAP_CHECK_STRINGS = 10,
+    ION_MAP_CHECK_CLOBS = 11,
+    ION_MAP_CHECK_BLOBS = 12,
+    ION_MAP_CHECK_LISTS = 13,
+    ION_MAP_CHECK_SEXPS = 14,
+    ION_MAP_CHECK_STRUCTS = 15
 };
 
 /* Words of an annotation; words 1, 4, 5 and 7 are 0. */
@@ -379,6 +404,14 @@ uint64_t ion_map_steps(const uint8_t *map, size_t map_len, size_t start, size_t 
    its first refusal and at most `most`. A container at depth `depth` is counted and not entered: the walk ends
    there. Fewer than `most` doesn't say which of these it was. With a limit out of range it is 0. */
 uint64_t ion_map_walked(const uint8_t *map, size_t map_len, uint64_t most, size_t annotations, size_t depth);
+
+/* Checks the whole map and counts what it holds, at every depth: every value's span, then each of its annotation IDs,
+   then its scalar, a decimal's and a timestamp's body included, or what is in it. A container at depth `depth` is
+   refused with 37, empty or not. Where it is accepted, no step, stepping in, annotation step or scalar reading of what is in
+   the map is refused. The record is at least ION_MAP_CHECK_SIZE bytes (51 below). Record kinds: CHECKED, REFUSED: the
+   first refusal that a walk meets which reads each item before the next. */
+uint64_t ion_map_check(const uint8_t *map, size_t map_len, size_t annotations, size_t depth, uint8_t *out,
+                       size_t out_len);
 
 /* How many field IDs the step at `position` in a struct's body start..end began to read: one for each pad that it
    passes, and one more unless it ends there, also where that ID or what follows it is refused. 0 where the part or

@@ -1,5 +1,6 @@
 //! Measures our reader beside the Rust's reader and two C loops, on the same maps in the same run.
 
+mod checks;
 mod maps;
 mod readers;
 mod texts;
@@ -240,6 +241,9 @@ fn once(kind: &str, reader: &str) {
 
 fn main() {
     let mut arguments: Vec<String> = std::env::args().skip(1).collect();
+    if arguments == ["--checks"] {
+        return check_all(15);
+    }
     if arguments == ["--texts"] {
         return texts::print(15);
     }
@@ -262,9 +266,15 @@ fn main() {
     kinds(16 * MEGABYTE, rounds, &mut noise);
     if !short {
         grow_all(rounds, &mut noise);
+        check_all(rounds);
         texts::print(rounds);
     }
     noise.print();
+}
+
+fn check_all(rounds: usize) {
+    let made = KINDS.map(|(name, make)| (name.to_string(), make(4 * MEGABYTE)));
+    checks::print(&made, rounds);
 }
 
 fn grow_all(rounds: usize, noise: &mut Noise) {

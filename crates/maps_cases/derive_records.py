@@ -5,7 +5,7 @@
     ./derive_records.py check                                                     compares the files with what would be written
     ./derive_records.py questions | oracle/answer | ./derive_records.py compare   asks ion-rust what it has an entry for
 
-Behind the buffer's length a question may have the limits of the change request A.9: the most annotation bytes, and of `walked` also the depth. Without them they
+Behind the buffer's length a question may have the limits of the change request A.9: the most annotation bytes, and of `walked` and `check` also the depth. Without them they
 are 255 and 32. What a value, a pad or a wrapper is and where it is refused comes from ../mapspans_cases/derive.py, which follows the scope paper and the change requests after
 it. The records follow the paper's "Record", "Scalars" and "VarUInt, VarInt, Int" and the change requests A.6, A.1 and A.4, the kinds 5 to 8, 10 and 11 the tables of
 include/ion_map.h.
@@ -28,10 +28,11 @@ FILL = 0xAA
 WORD_SIZE = 8
 RECORD_WORDS = 9
 RECORD_SIZE = RECORD_WORDS * WORD_SIZE
+CHECK_WORDS = 16
 STEPS = [steps.step_stream, steps.step_sequence, steps.step_struct]
 FIELDS = 2
 END, MARKER, VALUE, FIELD, _, ANNOTATION, BODY, SCALAR, NUMBER, REFUSED, SPLIT, STAMP = range(12)
-TEXT, SYMBOLS = 13, 19
+CHECKED, TEXT, SYMBOLS = 12, 13, 19
 NULL, BOOL, INT, FLOAT, DECIMAL, TIMESTAMP, SYMBOL, STRING, CLOB, BLOB, CONTAINER = range(11)
 
 # Refusals that each function can answer with; data/ is to have each of them.
@@ -48,6 +49,7 @@ REFUSALS = {
     "timestamp": FRAMING | {4, 33, 34, 35, 36, 50, 51, 61, 62, 63, 68},
     "walked": set(),
     "ids": set(),
+    "check": (STEPPING - {50}) | {4, 33, 34, 35, 36, 37, 61, 62, 63},
     "text": STEPPING | {36, 64, 65, 66},
     "symbols": STEPPING | {64, 65, 66},
     "symbol_text": (STEPPING | {36, 66}) - {2, 7, 21, 60},
@@ -55,7 +57,7 @@ REFUSALS = {
 
 # How many numbers a question has before its limits.
 NUMBERS = {"step": 5, "steps": 5, "annotation": 4, "step_in": 4, "scalar": 4, "number": 6, "decimal": 3, "timestamp": 4}
-NUMBERS |= {"walked": 1, "ids": 3, "text": 5, "symbols": 4, "symbol_text": 4}
+NUMBERS |= {"walked": 1, "check": 1, "ids": 3, "text": 5, "symbols": 4, "symbol_text": 4}
 
 # ===== The records' words =====
 
@@ -304,6 +306,68 @@ def ids(data, start, end, position, limits):
     return pads if ended else pads + 1
 
 
+# ===== The check of a whole map =====
+
+
+def pads_skipped(data, at, end, kind):
+    """How many pads a step that isn't refused skips."""
+    if kind == FIELDS:
+        return struct_pads(data, at, end)[0]
+    pads = 0
+    while at < end and steps.is_pad(data[at]):
+        at = steps.pad_end(data, at, end)
+        pads += 1
+    return pads
+
+
+def type_place(byte):
+    """Behind the counts of markers and pads: null, bool, int and so on; both signs of an int have one place."""
+    code = byte // 16
+    return 2 + code - (code > 2)
+
+
+def check_value(data, item, kind, depth, limits, counts):
+    """The change request A.5: "span first, annotations next, then its scalar or its inside". The span is the step's."""
+    at = var_uint(data, item.start, item.end)[1] if kind == FIELDS else item.start
+    at = annotations_start(data, at, item.descriptor)
+    while at < item.descriptor:
+        _, at = var_uint(data, at, item.descriptor)
+    counts[type_place(item.byte)] += 1
+    if steps.is_open(item.byte):
+        refuse_if(depth == limits.depth, 37, item.descriptor)
+        check_part(data, item.body, item.end, FIELDS if item.byte // 16 == steps.STRUCT else 1, depth + 1, limits, counts)
+        return
+    what = reading(data, item)[0]
+    if what == DECIMAL:
+        decimal(data, item.body, item.end, limits)
+    if what == TIMESTAMP:
+        stamp(data, item)
+
+
+def check_part(data, at, end, kind, depth, limits, counts):
+    while True:
+        item = STEPS[kind](data, at, end, limits)
+        counts[1] += pads_skipped(data, at, end, kind)
+        if item is None:
+            return
+        if item.byte == steps.MARKER:
+            counts[0] += 1
+        else:
+            check_value(data, item, kind, depth, limits, counts)
+        at = item.end
+
+
+def checked(data, limits):
+    """Sixteen words: kind 12 and the counts, or a refusal and zeros."""
+    counts = [0] * (CHECK_WORDS - 1)
+    try:
+        steps.limits_fit(limits)
+        check_part(data, 0, len(data), 0, 0, limits, counts)
+    except Refused as refused:
+        return [REFUSED, refused.number, refused.position] + [0] * (CHECK_WORDS - 3)
+    return [CHECKED, *counts]
+
+
 # ===== What a call returns and leaves =====
 
 COUNTS = {"walked": walked, "ids": ids}
@@ -333,6 +397,8 @@ def run(data, start, end, position, kind, limits, most):
 
 def records_of(name, data, limits, *arguments):
     *rest, size = arguments
+    if name == "check":
+        return [checked(data, limits)] if size >= CHECK_WORDS * WORD_SIZE else []
     if size < RECORD_SIZE:
         return []
     return run(data, *rest, limits, size // RECORD_SIZE) if name == "steps" else [called(SINGLE[name], data, *rest, limits)]
@@ -346,7 +412,7 @@ def returned(records):
 
 def shown(records, size):
     """A buffer's words, a `;` before each record's, `-` for eight bytes that are as they were; fewer than eight bytes in hexadecimal."""
-    left = b"".join(struct.pack(f"<{RECORD_WORDS}Q", *words) for words in records)
+    left = b"".join(struct.pack(f"<{len(words)}Q", *words) for words in records)
     left += bytes([FILL]) * (size - len(left))
     for at in range(0, size, WORD_SIZE):
         word = left[at : at + WORD_SIZE]

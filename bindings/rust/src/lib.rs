@@ -4,6 +4,7 @@
 
 mod annotations;
 mod answer;
+mod check;
 mod decimal;
 mod item;
 mod limits;
@@ -18,6 +19,7 @@ mod timestamp;
 mod walk;
 
 pub use annotations::{annotation, annotations, Annotation, Annotations};
+pub use check::{check, Counts};
 pub use decimal::{decimal, Decimal};
 pub use item::{Item, Marker, Type, Value};
 pub use limits::Limits;

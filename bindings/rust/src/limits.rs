@@ -1,5 +1,6 @@
 //! The limits of a title.
 
+use crate::check::{self, Counts};
 use crate::item::Item;
 use crate::part::Part;
 use crate::refusal::Refusal;
@@ -108,6 +109,11 @@ impl Limits {
     /// [`symbol_text`](crate::symbol_text) by these limits.
     pub fn symbol_text(self, map: &[u8], place: usize, id: u64) -> Result<Option<&str>, Refusal> {
         symbols::symbol_text_by(self, map, place, id)
+    }
+
+    /// [`check`](crate::check) by these limits.
+    pub fn check(self, map: &[u8]) -> Result<Counts, Refusal> {
+        check::check_by(self, map)
     }
 
     /// [`walked`](crate::walked) by these limits; 0 where one is out of its range.

@@ -134,6 +134,14 @@ extern "C" {
         out: *mut u8,
         out_len: usize,
     ) -> u64;
+    fn ion_map_check(
+        map: *const u8,
+        map_len: usize,
+        annotations: usize,
+        depth: usize,
+        out: *mut u8,
+        out_len: usize,
+    ) -> u64;
     fn ion_map_walked(map: *const u8, map_len: usize, most: u64, annotations: usize, depth: usize) -> u64;
     fn ion_map_ids(
         map: *const u8,
@@ -500,4 +508,20 @@ pub fn symbol_text(
             out.len(),
         )
     }
+}
+
+/// The words of a check's record, and its bytes.
+pub const CHECK_WORDS: usize = 16;
+pub const CHECK_SIZE: usize = CHECK_WORDS * 8;
+
+/// The check of a whole map: kind 12 and fifteen counts, or a refusal.
+///
+/// ```
+/// let mut record = [0; ion_map::raw::CHECK_SIZE];
+/// assert_eq!(ion_map::raw::check(&[0xB1, 0x20], 255, 32, &mut record), 0);
+/// assert_eq!((record[0], record[8 * 5], record[8 * 13]), (12, 1, 1));
+/// ```
+pub fn check(map: &[u8], annotations: usize, depth: usize, out: &mut [u8]) -> u64 {
+    // SAFETY: as in `step`.
+    unsafe { ion_map_check(map.as_ptr(), map.len(), annotations, depth, out.as_mut_ptr(), out.len()) }
 }

@@ -22,6 +22,10 @@ use Rattle.symbols.proofs.Runs.{ruling-of-runs, places-given, list-of-runs, ent
 use Rattle.walking.proofs.Depths.{limits-range}
 use Rattle.walking.proofs.Seeking.{visit-depth}
 use Rattle.walking.proofs.Exact.{exact, never-outside}
+use Rattle.checking.proofs.Walked.{checks-walk, accepted-walk, refused-walk, first-refusal}
+use Rattle.checking.proofs.Holding.{counts-held}
+use Rattle.checking.proofs.Baking.{baking}
+use Rattle.checking.proofs.Moving.{items-alike}
 use Rattle.runs.proofs.Overwriting.{still-reached}
 use Rattle.runs.proofs.Program.{program-ends, program-tiling, program-overwriting}
 use Rattle.records.proofs.FirstBytes.{first-bytes}
@@ -68,6 +72,13 @@ equal =
       decimalsLocal = decimals-local;
       decimalsMoved = decimals-moved;
       walk = exact;
+      checksWalk = checks-walk;
+      acceptedWalk = accepted-walk;
+      refusedWalk = refused-walk;
+      firstRefusal = first-refusal;
+      countsHeld = counts-held;
+      baking = baking;
+      itemsAlike = items-alike;
       limitRange = limit-range;
       limitsRange = limits-range;
       depthBound = visit-depth;

@@ -17,6 +17,9 @@ use Rattle.values.specs.Meaning.{ScalarsMeant}
 use Rattle.values.specs.Edges.{Edges}
 use Rattle.symbols.specs.TextTheorems.{TextsTold, TwoStages, StepsEnough, RulingOfRuns, PlacesGiven, ListOfRuns, EntryOfRuns}
 use Rattle.walking.specs.Theorems.{Exact, NeverOutside, LimitsRange, DepthBound}
+use Rattle.checking.specs.Theorems.{ChecksWalk, AcceptedWalk, RefusedWalk, FirstRefusal, CountsHeld}
+use Rattle.checking.specs.Unrefused.{Baking}
+use Rattle.checking.specs.Moved.{ItemsAlike}
 use Rattle.runs.specs.Theorems.{StillReached}
 use Rattle.runs.specs.Program.{ProgramEnds, ProgramTiling, ProgramOverwriting}
 use Rattle.records.specs.Theorems.{FirstBytes}
@@ -80,6 +83,16 @@ pub record Equal : Type 0 where
   pub decimalsMoved : DecimalsMoved
   -- the walk: "Markers and values in order, a non-null container before what is in it"
   pub walk : Exact
+  -- the check of a whole map, by the change request A.5: it is the walk, its items read in order, with the first refusal that this meets; "a walk of an accepted
+  -- map must meet the same items as the counts say", and where the walk is refused so is the check; each count, that of the pads too, is of what the bytes hold;
+  -- in an accepted map no call on what is reached is refused; and what is read of a value depends on its bytes alone, wherever they stand
+  pub checksWalk : ChecksWalk
+  pub acceptedWalk : AcceptedWalk
+  pub refusedWalk : RefusedWalk
+  pub firstRefusal : FirstRefusal
+  pub countsHeld : CountsHeld
+  pub baking : Baking
+  pub itemsAlike : ItemsAlike
   -- the limits, by the change request A.9: each theorem here is for every limit of annotation bytes and every depth. 68 is answered outside 255 to 65535 and
   -- 1 to 64, and there alone; and nothing is met deeper than the depth given.
   pub limitRange : LimitRange

@@ -14,12 +14,17 @@ ghost use Rattle.values.specs.Scalars.{stepIn, readScalar, readWithValue};
 ghost use Rattle.values.specs.Timestamps.{readTimestamp};
 ghost use Rattle.walking.specs.Walk.{wholeWalk};
 ghost use Rattle.walking.specs.Calls.{itemsIn};
-ghost use Rattle.records.specs.Buffer.{recordIn, returned};
-ghost use Rattle.records.specs.Words.{words, annotationWords, bodyWords, readingWords, numberWords, decimalWords, timestampWords};
+ghost use Rattle.checking.specs.Check.{wholeCheck};
+ghost use Rattle.checking.specs.Read.{checkedRead};
+ghost use Rattle.records.specs.Buffer.{recordIn, returned, checkIn, checkReturned};
+ghost use Rattle.records.specs.Words.{words, annotationWords, bodyWords, readingWords, numberWords, decimalWords, timestampWords, checkWords};
 ghost use Rattle.maps.specs.Private.Inside.{ShortAt};
 ghost use Rattle.maps.specs.Exported.{exportedStep, exportedIds, exportedAnnotation, exportedBody, numberBy, exportedNumber};
 use crate::inside;
 use bodies::decimal::read_decimal;
+use checking::check::Checked;
+use checking::check::check_map;
+use checking::item::Verdict;
 use counting::counted::ids_begun;
 use framing::annotations_iterator::read_annotation;
 use framing::binary_buffer::bare_value;
@@ -39,6 +44,10 @@ use numbers::var_int::VarInt;
 use numbers::var_uint::VarUInt;
 use records::buffer::RECORD_WORDS;
 use records::buffer::put_record;
+use records::check_record::CHECK_WORDS;
+use records::check_record::counts_words;
+use records::check_record::put_check;
+use records::check_record::refused_check_words;
 use records::words::annotation_words;
 use records::words::body_words;
 use records::words::decimal_words;
@@ -348,4 +357,25 @@ pub extern "C" fn ion_map_timestamp(
         out,
         timestamp_words(read_timestamp(map, start, end, position, limit)),
     )
+}
+
+// The words of a check's answer.
+fn check_words(checked: Checked) -> [u64; CHECK_WORDS]
+    ensures { λ r. ⌜ r ≡ checkWords (checkedRead checked .outcome) ⌝ }
+{
+    let counts = checked.counts;
+    let verdict = checked.verdict;
+    match verdict {
+        Verdict::Accepted => counts_words(counts),
+        Verdict::Refused(refusal) => refused_check_words(refusal),
+    }
+}
+
+// Checks the whole map: every value's places, annotations and scalar, at every depth. Its record of sixteen words has the counts of what the map holds.
+#[no_mangle]
+pub extern "C" fn ion_map_check(map: &[u8], limit: usize, deepest: usize, out: &mut [u8]) -> u64
+    ensures { λ r. ⌜ r ≡ checkReturned (now (out .entry)) (wholeCheck limit deepest (now (map .entry))) ⌝ }
+    ensures { λ _. ⌜ now (out .exit) ≡ checkIn (checkWords (wholeCheck limit deepest (now (map .entry)))) (now (out .entry)) ⌝ }
+{
+    put_check(out, check_words(check_map(map, limit, deepest)))
 }

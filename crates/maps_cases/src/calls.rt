@@ -4,6 +4,7 @@ ghost use Prim.Native.Nat.{_<_, _≤_};
 ghost use lib.ListN.{length};
 use crate::symbol_calls;
 use maps::exports::ion_map_annotation;
+use maps::exports::ion_map_check;
 use maps::exports::ion_map_decimal;
 use maps::exports::ion_map_ids;
 use maps::exports::ion_map_number;
@@ -53,6 +54,9 @@ fn size_word(asked: &[u8]) -> usize {
     }
     if check::same(asked, b"ids") {
         return 0;
+    }
+    if check::same(asked, b"check") {
+        return 2;
     }
     if check::same(asked, b"decimal") {
         return 4;
@@ -177,6 +181,14 @@ fn called(line: &[u8], map: &[u8], out: &mut [u8]) -> Line {
             most as u64,
             number_or(line, 3, ANNOTATION_LIMIT),
             number_or(line, 4, DEPTH_LIMIT),
+        ));
+    }
+    if check::same(asked, b"check") {
+        return Line::new().number(ion_map_check(
+            map,
+            number_or(line, 3, ANNOTATION_LIMIT),
+            number_or(line, 4, DEPTH_LIMIT),
+            out,
         ));
     }
     if check::same(asked, b"ids") {

@@ -13,8 +13,8 @@ use Rattle.stepping.specs.Items.{Item, finish, marker, value, field}
 use Rattle.values.specs.Scalars.{valueIn, Opened, opened, Scalar, scalarOf, readScalar, withValue, readWithValue}
 use Rattle.values.specs.Timestamps.{Dated, stamped, other}
 use Rattle.records.specs.FirstWords.{enteredAt, enter, Number}
-use Rattle.records.specs.Words.{words, annotationWords, bodyWords, scalarWords, readingWords, numberWords, decimalWords, timestampWords}
-use Rattle.records.specs.Buffer.{recordSize, numberOf, returned, numberIn, returnedBy}
+use Rattle.records.specs.Words.{words, annotationWords, bodyWords, scalarWords, readingWords, numberWords, decimalWords, timestampWords, checkWords}
+use Rattle.records.specs.Buffer.{recordSize, numberOf, returned, numberIn, returnedBy, checkSize, checkReturned, checkReturnedBy}
 
 pub step-number : (o : Outcome Item) → numberIn (words o) ≡ numberOf o
 unfolding numberIn
@@ -74,3 +74,12 @@ timestamp-number (refuses n p) = refl
 pub returned-by : {A : Type 0} (ws old : List ℕ) (o : Outcome A) → numberIn ws ≡ numberOf o → returnedBy ws old ≡ returned old o
 unfolding returnedBy returned
 returned-by ws old o e = ap (λ (n : ℕ). pick (ltb (length old) recordSize) 51 n) e
+
+pub check-number : (o : Outcome (List ℕ)) → numberIn (checkWords o) ≡ numberOf o
+unfolding numberIn
+check-number (gives c) = refl
+check-number (refuses n p) = refl
+
+pub check-returned : {A : Type 0} (ws old : List ℕ) (o : Outcome A) → numberIn ws ≡ numberOf o → checkReturnedBy ws old ≡ checkReturned old o
+unfolding checkReturnedBy checkReturned
+check-returned ws old o e = ap (pick (ltb (length old) checkSize) 51) e

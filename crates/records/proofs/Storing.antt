@@ -7,9 +7,9 @@ use native.Mathlib.Numerals.{add-one}
 use borrow.Author.Tests.{le-ltb}
 use mathlib.Core.Path.{_≡_, refl, _∙_, sym, ap}
 use mathlib.Core.List.{List, [], _∷_, _++_, append-assoc}
-use lib.ListN.{length, getD, set, drop, length-append}
+use lib.ListN.{length, getD, set, drop, length-append, drop-of-length-le}
 use lib.Seq.{sets, sets-eq, drop-cons}
-use Rattle.records.specs.Buffer.{littleEndian, wordSize, bytesOf, recordWords, recordSize, recordIn}
+use Rattle.records.specs.Buffer.{littleEndian, wordSize, bytesOf, recordWords, recordSize, recordIn, checkSize, checkIn}
 
 pub sets-append : (l : List ℕ) (i : ℕ) (a b : List ℕ) → sets l i (a ++ b) ≡ sets (sets l i a) (i + length a) b
 sets-append l i [] b = rw (add-zero i)
@@ -50,3 +50,19 @@ record-is ws old e h =
     let n : length (bytesOf ws) ≡ recordSize = omega (arith, length-bytes ws) in
     let m : 0 + length (bytesOf ws) ≡ recordSize = omega arith in
     rw (le-ltb (length old) recordSize h) (sets-eq (bytesOf ws) old 0 (omega arith) ∙ ap (λ (k : ℕ). bytesOf ws ++ drop k old) m)
+
+pub check-is : (ws old : List ℕ) → length ws ≡ 16 → checkSize ≤ length old → sets old 0 (bytesOf ws) ≡ checkIn ws old
+unfolding checkIn
+check-is ws old e h =
+    let m : 0 + length (bytesOf ws) ≡ checkSize = omega (arith, length-bytes ws) in
+    rw (le-ltb (length old) checkSize h) (sets-eq (bytesOf ws) old 0 (omega arith) ∙ ap (λ (k : ℕ). bytesOf ws ++ drop k old) m)
+
+-- n elements from the index i on, one by one
+abbrev pub elements : ℕ → ℕ → List ℕ → List ℕ
+elements zero i l = []
+elements (suc n) i l = getD l i 0 ∷ elements n (suc i) l
+
+pub all-elements : (n i : ℕ) (l : List ℕ) → i + n ≡ length l → elements n i l ≡ drop i l
+all-elements zero i l e = sym (drop-of-length-le l {i = i} (omega arith))
+all-elements (suc n) i l e =
+    ap (λ (r : List ℕ). getD l i 0 ∷ r) (all-elements n (suc i) l (omega arith)) ∙ sym (drop-cons l i 0 (omega arith))

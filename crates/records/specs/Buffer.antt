@@ -47,3 +47,18 @@ numberIn ws = pick (eqb (getD ws 0 0) 9) (getD ws 1 0) 0
 -- what a call that puts these words returns, 51 first
 unfoldable pub returnedBy : List ℕ → List ℕ → ℕ
 returnedBy ws old = pick (ltb (length old) recordSize) 51 (numberIn ws)
+
+-- ---- the record of a check
+
+-- A.5: "sixteen words", "128 bytes (51 below)"; else as of the others
+abbrev pub checkSize : ℕ
+checkSize = 16 * wordSize
+
+unfoldable pub checkIn : List ℕ → List ℕ → List ℕ
+checkIn ws old = pick (ltb (length old) checkSize) old (bytesOf ws ++ drop checkSize old)
+
+unfoldable pub checkReturned : {A : Type 0} → List ℕ → Outcome A → ℕ
+checkReturned old o = pick (ltb (length old) checkSize) 51 (numberOf o)
+
+unfoldable pub checkReturnedBy : List ℕ → List ℕ → ℕ
+checkReturnedBy ws old = pick (ltb (length old) checkSize) 51 (numberIn ws)

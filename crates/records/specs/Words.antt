@@ -110,3 +110,12 @@ abbrev pub timestampWords : Outcome Dated → List ℕ
 timestampWords (gives (stamped descriptor t)) = stampWords descriptor t
 timestampWords (gives (other v x)) = scalarWords v (gives x)
 timestampWords (refuses number at) = refusedWords number at
+
+-- ---- the check
+
+-- kind 12, "markers, pads, null, bool, int, float, decimal, timestamp, symbol, string, clob, blob, list, sexp, struct; a refusal is kind 9, number, position, 13
+-- zeros"
+abbrev pub checkWords : Outcome (List ℕ) → List ℕ
+checkWords (gives c) = 12 ∷ c
+checkWords (refuses number position) =
+    9 ∷ number ∷ position ∷ 0 ∷ 0 ∷ 0 ∷ 0 ∷ 0 ∷ 0 ∷ 0 ∷ 0 ∷ 0 ∷ 0 ∷ 0 ∷ 0 ∷ 0 ∷ []

@@ -1,15 +1,15 @@
 // The bytes of a record, and putting it into a lent buffer.
 ghost use mathlib.Core.Path.{_≡_};
-ghost use Prim.Native.Nat.{_+_, _≤_};
+ghost use Prim.Native.Nat.{_+_, _*_, _≤_};
 ghost use lib.ListN.{length};
 ghost use lib.Seq.{sets};
-ghost use Rattle.records.specs.Buffer.{littleEndian, wordSize, bytesOf, recordWords, recordSize, recordIn, numberIn, returnedBy};
+ghost use Rattle.records.specs.Buffer.{littleEndian, wordSize, bytesOf, recordIn, numberIn, returnedBy};
 use numbers::refusal::RECORD_TOO_SHORT;
 
 // The words of a record, the bytes of a word, and those of a record.
 pub const RECORD_WORDS: usize = 9;
 
-const WORD_SIZE: usize = 8;
+pub(crate) const WORD_SIZE: usize = 8;
 
 pub const RECORD_SIZE: usize = RECORD_WORDS * WORD_SIZE;
 
@@ -32,12 +32,12 @@ fn put_word(out: &mut [u8], at: usize, word: u64)
 }
 
 // The words of a record from `at` on.
-fn put_words(out: &mut [u8], at: usize, words: &[u64; RECORD_WORDS])
-    requires { ⌜ (length (now words) ≡ recordWords) × (at + recordSize ≤ length (now out)) ⌝ }
+pub(crate) fn put_words(out: &mut [u8], at: usize, words: &[u64])
+    requires { ⌜ at + length (now words) * wordSize ≤ length (now out) ⌝ }
     ensures { λ r. ⌜ now (out .exit) ≡ sets (now (out .entry)) at (bytesOf (now (words .entry))) ⌝ }
 {
     let mut i = 0;
-    while i < RECORD_WORDS {
+    while i < words.len() {
         put_word(out, at + i * WORD_SIZE, words[i]);
         i = i + 1;
     }

@@ -4,7 +4,7 @@ use Prim.Native.Nat.{ℕ, _-_, _/_, _%_}
 use mathlib.Core.Bool.{Bool, true, false, not}
 use mathlib.Core.List.{List}
 use lib.Dec.{ltb, eqb}
-use Rattle.numbers.specs.Outcome.{Outcome, gives, refuses, pick, refuseIf, andThen}
+use Rattle.numbers.specs.Outcome.{Outcome, gives, refuses, pick, refuseIf, andThen, within}
 use Rattle.numbers.specs.Bytes.{part}
 use Rattle.framing.specs.Spans.{Spans}
 use Rattle.framing.specs.Limits.{limited}
@@ -115,6 +115,10 @@ typedOf s v type =
 
 unfoldable pub scalarOf : List ℕ → Spans → Outcome Scalar
 scalarOf s v = pick (eqb (codeOf v) 15) (nullOf v) (typedOf s v (typeOf v))
+
+-- of a value whose places are known: 50 where its body is no part of the slice
+unfoldable pub scalarIn : List ℕ → Spans → Outcome Scalar
+scalarIn s v = within s (v .body) (v .end) (scalarOf s v)
 
 unfoldable pub readScalar : ℕ → List ℕ → ℕ → ℕ → ℕ → Outcome Scalar
 readScalar limit s start end at = andThen (valueIn limit s start end at) (scalarOf s)

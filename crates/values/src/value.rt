@@ -9,7 +9,7 @@ ghost use Rattle.numbers.specs.Outcome.{gives, refuses, pick, andThen};
 ghost use Rattle.bodies.specs.Timestamp.{timestamp};
 ghost use Rattle.framing.specs.Read.{framedRead, spansOf};
 ghost use Rattle.stepping.specs.Read.{itemRead};
-ghost use Rattle.values.specs.Scalars.{null, valueIn, isContainer, opened, stepIn, boolOf, positiveOf, negativeOf, floatOf, symbolOf, stringOf, typedOf, scalarOf, readScalar, readWithValue, spanOf, scalarPart};
+ghost use Rattle.values.specs.Scalars.{null, valueIn, isContainer, opened, stepIn, boolOf, positiveOf, negativeOf, floatOf, symbolOf, stringOf, typedOf, scalarOf, scalarIn, readScalar, readWithValue, spanOf, scalarPart};
 ghost use Rattle.values.specs.Timestamps.{isTimestamp, stampedAt, timestampOf, readTimestamp};
 ghost use Rattle.values.specs.Read.{bodyRead, scalarRead, valueRead, datedRead};
 ghost use Rattle.values.specs.Private.Values.{valueFrom};
@@ -338,6 +338,16 @@ fn scalar_of(s: &[u8], value: EncodedValue) -> Scalar
         return null_of(type_code);
     }
     read_typed(s, value, type_code)
+}
+
+// Reads a value whose places are known.
+pub fn read_placed(s: &[u8], value: EncodedValue) -> Scalar
+    ensures { λ r. ⌜ scalarRead r ≡ scalarIn (now (s .entry)) (spansOf value) ⌝ }
+{
+    if outside(s, value.body, value.end) {
+        return refused(OUTSIDE, 0);
+    }
+    scalar_of(s, value)
 }
 
 // Reads the value at `at`, and hands its spans out too.

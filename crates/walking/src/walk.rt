@@ -71,7 +71,7 @@ struct Seen {
 }
 
 // Whether one of a walk's two limits is none.
-fn limits_out(limit: usize, deepest: usize) -> bool
+pub fn limits_out(limit: usize, deepest: usize) -> bool
     ensures { λ r. ⌜ r ≡ limitsOut limit deepest ⌝ }
 {
     if out_of_range(limit) {

@@ -18,6 +18,9 @@ returns c =
     let t = lt-ltb (length (c .before .before .args .out .now)) recordSize m in
     (rw t, (rw t))
 
+slice-aggregate-put-words : tie.Need-slice-aggregate-put-words
+slice-aggregate-put-words c = search needs
+
 put-words-requires : tie.Need-put-words-requires
 put-words-requires c κs = search needs
 
@@ -39,4 +42,11 @@ returns-2 c =
 
 pub put-record-spec : {M : Type 1} → statement M
 put-record-spec =
-    tie.close (tie.spec returns put-words-requires number-in-requires same-length returns-2)
+    tie.close
+    (tie.spec
+    returns
+    slice-aggregate-put-words
+    put-words-requires
+    number-in-requires
+    same-length
+    returns-2)

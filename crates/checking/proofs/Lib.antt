@@ -1,0 +1,10 @@
+pub mod Places
+pub mod Tallies
+pub mod Ids
+pub mod Scalars
+pub mod Unrolled
+pub mod Bounding
+pub mod Walked
+pub mod Holding
+pub mod Baking
+pub mod Moving

@@ -1,0 +1,11 @@
+pub mod Counts
+pub mod Reading
+pub mod Check
+pub mod Answers
+pub mod Read
+pub mod WalkRead
+pub mod Held
+pub mod Theorems
+pub mod Unrefused
+pub mod Moved
+pub mod Private
