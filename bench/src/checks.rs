@@ -67,7 +67,7 @@ fn rust(map: &[u8], context: &mut EncodingContext) -> IonResult<u64> {
 
 fn rust_value(value: &LazyRawBinaryValue_1_0<'_>, items: &mut u64) -> IonResult<()> {
     *items += 1;
-    for id in LazyRawValue::annotations(value) {
+    for id in LazyRawValue::annotations(&value) {
         black_box(id?);
     }
     match value.read()? {
