@@ -10,6 +10,9 @@ use Rattle.framing.proofs.Ranges.{limit-range}
 use Rattle.framing.proofs.Soundness.{values-sound, pads-sound}
 use Rattle.framing.proofs.Completeness.{values-complete, pads-complete}
 use Rattle.bodies.proofs.Splitting.{decimals-sound, decimals-complete, empty-decimals, decimals-local, decimals-moved}
+use Rattle.bodies.proofs.Gregorian.{months-sound, months-complete, four-centuries}
+use Rattle.bodies.proofs.Stamping.{timestamps-sound, timestamps-complete}
+use Rattle.bodies.proofs.StampMoving.{timestamps-local, timestamps-moved}
 use Rattle.stepping.proofs.Soundness.{steps-sound, steps-repeat, refusals-keep}
 use Rattle.stepping.proofs.Completeness.{steps-complete}
 use Rattle.stepping.proofs.Tiling.{runs}
@@ -71,6 +74,13 @@ equal =
       emptyDecimals = empty-decimals;
       decimalsLocal = decimals-local;
       decimalsMoved = decimals-moved;
+      monthsSound = months-sound;
+      monthsComplete = months-complete;
+      fourCenturies = four-centuries;
+      timestampsSound = timestamps-sound;
+      timestampsComplete = timestamps-complete;
+      timestampsLocal = timestamps-local;
+      timestampsMoved = timestamps-moved;
       walk = exact;
       checksWalk = checks-walk;
       acceptedWalk = accepted-walk;

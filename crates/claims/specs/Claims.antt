@@ -10,6 +10,8 @@ use Rattle.numbers.specs.Meaning.{VarUIntSound, VarUIntComplete, VarIntSound, V
 use Rattle.framing.specs.Limits.{LimitRange}
 use Rattle.framing.specs.Meaning.{ValuesSound, ValuesComplete, PadsSound, PadsComplete}
 use Rattle.bodies.specs.Decimal.{DecimalsSound, DecimalsComplete, EmptyDecimals, DecimalsLocal, DecimalsMoved}
+use Rattle.bodies.specs.Calendar.{MonthsSound, MonthsComplete, FourCenturies}
+use Rattle.bodies.specs.TimestampMeaning.{TimestampsSound, TimestampsComplete, TimestampsLocal, TimestampsMoved}
 use Rattle.stepping.specs.Meaning.{StepsSound, StepsComplete, StepsRepeat, RefusalsKeep}
 use Rattle.stepping.specs.Theorems.{RunsExist}
 use Rattle.counting.specs.Meaning.{IdsSound, NoIdsUnread}
@@ -81,6 +83,15 @@ pub record Equal : Type 0 where
   pub emptyDecimals : EmptyDecimals
   pub decimalsLocal : DecimalsLocal
   pub decimalsMoved : DecimalsMoved
+  -- timestamps, by the change request A.4: "offset minutes or unknown, then the UTC fields present, to the fraction's coefficient and exponent", days "as in the
+  -- Gregorian month"; and what is read depends on the body's bytes alone, wherever they stand
+  pub monthsSound : MonthsSound
+  pub monthsComplete : MonthsComplete
+  pub fourCenturies : FourCenturies
+  pub timestampsSound : TimestampsSound
+  pub timestampsComplete : TimestampsComplete
+  pub timestampsLocal : TimestampsLocal
+  pub timestampsMoved : TimestampsMoved
   -- the walk: "Markers and values in order, a non-null container before what is in it"
   pub walk : Exact
   -- the check of a whole map, by the change request A.5: it is the walk, its items read in order, with the first refusal that this meets; "a walk of an accepted

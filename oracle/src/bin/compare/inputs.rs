@@ -523,10 +523,19 @@ fn decimal(random: &mut Random) -> Vec<u8> {
     }
 }
 
-/// A timestamp, most often one whose numbers can all be read.
+/// A timestamp, most often one whose numbers can all be read, annotated now and then.
 fn timestamp(random: &mut Random) -> Vec<u8> {
     let body = random.timestamp_body();
-    random.framed(6, &plain(body), false).bytes
+    let value = random.framed(6, &plain(body), false).bytes;
+    if !random.one_in(3) {
+        return value;
+    }
+    let annotated = joined(&[&[0x81, 0x84], &value]);
+    let head = match annotated.len() {
+        combined @ 0..14 => vec![0xE0 | combined as u8],
+        combined => joined(&[&[0xEE], &var_uint(combined as u64, 1)]),
+    };
+    joined(&[&head, &annotated])
 }
 
 /// A marker whose numbers and last byte are as in version 1.0 or not, between other items.
