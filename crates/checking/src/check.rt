@@ -86,15 +86,7 @@ fn check_value(
                     position: value.descriptor,
                 });
             }
-            check_part(
-                s,
-                counts,
-                rules,
-                room - 1,
-                value.body,
-                value.end,
-                limit,
-            )
+            check_part(s, counts, rules, room - 1, value.body, value.end, limit)
         }
         Head::Refused(refusal) => Verdict::Refused(refusal),
     }
@@ -121,15 +113,7 @@ pub fn check_map(s: &[u8], limit: usize, deepest: usize) -> Checked
         });
     }
     let mut counts = [0u64; PLACES];
-    match check_part(
-        s,
-        &mut counts,
-        Rules::Stream,
-        deepest,
-        0,
-        s.len(),
-        limit,
-    ) {
+    match check_part(s, &mut counts, Rules::Stream, deepest, 0, s.len(), limit) {
         Verdict::Accepted => Checked {
             verdict: Verdict::Accepted,
             counts,

@@ -39,12 +39,11 @@ ids-sound limit s c g o =
     let l = inside-order s (c .at) (c .end) o in
     let m = inside-end s (c .at) (c .end) o in
     let w = skipping limit Fields s (c .end) (c .end - c .at) (c .at) l (omega arith) in
-    let r = subst (Placed s (c .at) (c .end)) (of-skipping limit Fields s (c .end) g l m w) (placed limit s (c .end) m w) in
-    (
+    let r = subst (Placed s (c .at) (c .end)) (of-skipping limit Fields s (c .end) g l m w) (placed limit s (c .end) m w) in (
       r .0,
       r .1,
       ap (λ (x : Counted). x .names) (counted-inside limit Fields s g (c .at) (c .end) l m)
-      ∙ ap (λ (n : ℕ). length (found limit Fields s c .pads) + n) (r .2)
+          ∙ ap (λ (n : ℕ). length (found limit Fields s c .pads) + n) (r .2),
     )
 
 pub no-ids-unread : NoIdsUnread

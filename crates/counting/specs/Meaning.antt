@@ -20,7 +20,7 @@ abbrev pub IdsSound : Type 0
 IdsSound =
     (limit : ℕ) (s : List ℕ) (c : Cursor) → outOfRange limit ≡ false → outsideOf s (c .at) (c .end) ≡ false
     → (z : ℕ) × Skips Fields s (c .end) (c .at) (found limit Fields s c .pads) z
-      × (idsBegun limit s c ≡ length (found limit Fields s c .pads) + pick (ltb z (c .end)) 1 0)
+    × (idsBegun limit s c ≡ length (found limit Fields s c .pads) + pick (ltb z (c .end)) 1 0)
 
 -- "refused before any ID": with 68 or 50
 abbrev pub NoIdsUnread : Type 0

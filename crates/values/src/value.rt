@@ -407,13 +407,7 @@ fn timestamp_of(s: &[u8], value: EncodedValue) -> TimestampRead
 }
 
 // Reads the value at `at`, and what it says where it is a timestamp.
-pub fn read_timestamp(
-    s: &[u8],
-    start: usize,
-    end: usize,
-    at: usize,
-    limit: usize,
-) -> TimestampRead
+pub fn read_timestamp(s: &[u8], start: usize, end: usize, at: usize, limit: usize) -> TimestampRead
     ensures { λ r. ⌜ datedRead r ≡ readTimestamp limit (now (s .entry)) start end at ⌝ }
 {
     match value_in(s, start, end, at, limit) {

@@ -32,8 +32,7 @@ fn fields(line: Line, t: Stamp) -> Line {
 // How far it goes, those, and sign and magnitude of the fraction's exponent, and its coefficient.
 fn stamp(t: Stamp) -> Line {
     let line = fields(small(Line::new(), t.precision), t);
-    sign(line, t.exponent_negative)
-        .position(t.exponent)
+    sign(line, t.exponent_negative).position(t.exponent)
         .number(t.coefficient)
 }
 

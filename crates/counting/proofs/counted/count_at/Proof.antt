@@ -77,14 +77,13 @@ loop-holds : tie.Need-loop-holds Inv-loop μ-loop
 loop-holds c =
     let o = c .before in
     let a = o .before .before .before .before .args in
-    let e : outsideOf (a .s .now) (a .at) (a .end) ≡ false = sym (o .outside .ensures) ∙ c .if2 .left in
-    (
+    let e : outsideOf (a .s .now) (a .at) (a .end) ≡ false = sym (o .outside .ensures) ∙ c .if2 .left in (
       inside-order (a .s .now) (a .at) (a .end) e,
       inside-end (a .s .now) (a .at) (a .end) e,
       omega arith,
       refl,
       adding-none (counted (a .limit) (a .rules) (a .s .now) (cursor (a .at) (a .end))),
-      ranged (o .before)
+      ranged (o .before),
     )
 
 add-names : tie.Need-add-names Inv-loop μ-loop
