@@ -85,6 +85,38 @@ static void check_step(void)
           ion_map_step(map, LENGTH, 0, LENGTH, 0, 0, LIMIT, record, sizeof record - ION_MAP_WORD_SIZE), 51);
 }
 
+static void check_bounded(void)
+{
+    static const uint8_t pads[] = {0x00, 0x00, 0x00, 0x01}; /* three pads, and one that is cut short */
+    static const uint8_t fields[] = {0x80, 0x00, 0x80, 0x00};
+    static const words more = {ION_MAP_KIND_MORE, 2, 2, 0, 0, 0, 0, 0, 0};
+    static const words cut = {ION_MAP_KIND_REFUSED, ION_MAP_REFUSAL_PAD_CUT, 4, 0, 0, 0, 0, 0, 0};
+    static const words last = {ION_MAP_KIND_MORE, 1, 3, 0, 0, 0, 0, 0, 0};
+    static const words end = {ION_MAP_KIND_END, 0, 3, 0, 0, 0, 0, 0, 0};
+    static const words field = {ION_MAP_KIND_FIELD, 0x21, 10, 11, 11, 12, 13, 5, 1};
+    static const words before_id = {ION_MAP_KIND_MORE, 1, 2, 0, 0, 0, 0, 0, 0};
+    static const words none = {ION_MAP_KIND_REFUSED, ION_MAP_REFUSAL_NO_PADS_ALLOWED, 0, 0, 0, 0, 0, 0, 0};
+
+    check("more pads", ion_map_step_bounded(pads, 4, 0, 4, 0, 0, 2, LIMIT, record, sizeof record), 0);
+    check_words("more pads", record, more);
+    check("the next bound", ion_map_step_bounded(pads, 4, 0, 4, 2, 0, 1, LIMIT, record, sizeof record), 0);
+    check_words("the next bound", record, last);
+    check("the cut pad", ion_map_step_bounded(pads, 4, 0, 4, 3, 0, 1, LIMIT, record, sizeof record), 6);
+    check_words("the cut pad", record, cut);
+    check("up to the end", ion_map_step_bounded(pads, 4, 0, 3, 0, 0, 3, LIMIT, record, sizeof record), 0);
+    check_words("up to the end", record, end);
+    check("a field", ion_map_step_bounded(map, LENGTH, 8, 13, 8, ION_MAP_PART_STRUCT, 1, LIMIT, record, sizeof record), 0);
+    check_words("a field", record, field);
+    check("before an ID",
+          ion_map_step_bounded(fields, 4, 0, 4, 0, ION_MAP_PART_STRUCT, 1, LIMIT, record, sizeof record), 0);
+    check_words("before an ID", record, before_id);
+    check("no pads", ion_map_step_bounded(pads, 4, 0, 4, 0, 0, 0, LIMIT, record, sizeof record), 67);
+    check_words("no pads", record, none);
+    check("no pads outside", ion_map_step_bounded(pads, 4, 0, 5, 0, 0, 0, LIMIT, record, sizeof record), 50);
+    check("no pads, wrong limit", ion_map_step_bounded(pads, 4, 0, 5, 0, 0, 0, 254, record, sizeof record), 68);
+    check("no pads, short record", ion_map_step_bounded(pads, 4, 0, 5, 0, 0, 0, 254, record, sizeof record - 1), 51);
+}
+
 static void check_ids(void)
 {
     check("IDs of the step at the pad", ion_map_ids(map, LENGTH, 8, 13, 8, LIMIT), 2);
@@ -314,6 +346,7 @@ static void check_symbols(void)
 int main(void)
 {
     check_step();
+    check_bounded();
     check_ids();
     check_whole_map();
     check_annotation_and_step_in();

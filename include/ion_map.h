@@ -218,10 +218,11 @@ uint64_t ion_map_step(const uint8_t *map, size_t map_len, size_t start, size_t e
 }
 #endif
 
-/* ========== Part 2: annotations, stepping in, scalars, timestamps, numbers, decimals, many steps ========== */
+/* ===== Part 2: bounded steps, annotations, stepping in, scalars, timestamps, numbers, decimals, many steps ===== */
 
 /* Kinds of the records of part 2, beside ION_MAP_KIND_END and ION_MAP_KIND_REFUSED. */
 enum {
+    ION_MAP_KIND_MORE = 4,
     ION_MAP_KIND_ANNOTATION = 5,
     ION_MAP_KIND_BODY = 6,
     ION_MAP_KIND_SCALAR = 7,
@@ -253,6 +254,13 @@ enum {
     ION_MAP_CHECK_LISTS = 13,
     ION_MAP_CHECK_SEXPS = 14,
     ION_MAP_CHECK_STRUCTS = 15
+};
+
+/* Words of a bounded step that came back among pads; the others are 0. */
+enum {
+    ION_MAP_MORE_PADS = 1,    /* how many pads were passed: as many as were allowed */
+    ION_MAP_MORE_POSITION = 2 /* after the last of them, in a struct before the next field ID: the position for the
+                                 next step */
 };
 
 /* Words of an annotation; words 1, 4, 5 and 7 are 0. */
@@ -362,7 +370,8 @@ enum {
     ION_MAP_REFUSAL_HOUR_WITHOUT_MINUTE = 61, /* a timestamp that ends after its hour - its descriptor */
     ION_MAP_REFUSAL_TIMESTAMP_OUT_OF_RANGE = 62, /* a timestamp's year outside 1 to 9999, another field, the offset or
                                                     the fraction outside its range - its descriptor */
-    ION_MAP_REFUSAL_COEFFICIENT_TOO_LONG = 63 /* a fraction's coefficient of 2^64 or more - its descriptor */
+    ION_MAP_REFUSAL_COEFFICIENT_TOO_LONG = 63, /* a fraction's coefficient of 2^64 or more - its descriptor */
+    ION_MAP_REFUSAL_NO_PADS_ALLOWED = 67    /* a bounded step's largest number of pads is 0, after 50 - 0 */
 };
 
 #ifdef __cplusplus
@@ -371,6 +380,14 @@ extern "C" {
 
 /* All functions of part 2 that take `out` return 0 or the number of the refusal that the record holds; with
    51 nothing is written. */
+
+/* One step past `most` pads at most, so that it comes back soon also where a map holds nothing but pads. The other
+   arguments are those of ion_map_step. It answers what ion_map_step does, or, where `most` pads were passed and another
+   pad's descriptor comes next, MORE: go on from word POSITION. Of that next pad nothing is read yet but its descriptor,
+   in a struct its field ID before that. Repeated, it reaches the item, end or refusal of ion_map_step. Record kinds:
+   those of ion_map_step, and MORE. */
+uint64_t ion_map_step_bounded(const uint8_t *map, size_t map_len, size_t start, size_t end, size_t position,
+                              uint64_t kind, size_t most, size_t annotations, uint8_t *out, size_t out_len);
 
 /* The next annotation of a value. The part is words ANNOTATIONS and DESCRIPTOR of the value's record; go on
    from `start` at first, then from word END of the record before. Record kinds: ANNOTATION, END, REFUSED. */

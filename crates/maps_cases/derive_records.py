@@ -31,7 +31,7 @@ RECORD_SIZE = RECORD_WORDS * WORD_SIZE
 CHECK_WORDS = 16
 STEPS = [steps.step_stream, steps.step_sequence, steps.step_struct]
 FIELDS = 2
-END, MARKER, VALUE, FIELD, _, ANNOTATION, BODY, SCALAR, NUMBER, REFUSED, SPLIT, STAMP = range(12)
+END, MARKER, VALUE, FIELD, MORE, ANNOTATION, BODY, SCALAR, NUMBER, REFUSED, SPLIT, STAMP = range(12)
 CHECKED, TEXT, SYMBOLS = 12, 13, 19
 NULL, BOOL, INT, FLOAT, DECIMAL, TIMESTAMP, SYMBOL, STRING, CLOB, BLOB, CONTAINER = range(11)
 
@@ -53,11 +53,12 @@ REFUSALS = {
     "text": STEPPING | {36, 64, 65, 66},
     "symbols": STEPPING | {64, 65, 66},
     "symbol_text": (STEPPING | {36, 66}) - {2, 7, 21, 60},
+    "step_bounded": STEPPING | {67},
 }
 
 # How many numbers a question has before its limits.
 NUMBERS = {"step": 5, "steps": 5, "annotation": 4, "step_in": 4, "scalar": 4, "number": 6, "decimal": 3, "timestamp": 4}
-NUMBERS |= {"walked": 1, "check": 1, "ids": 3, "text": 5, "symbols": 4, "symbol_text": 4}
+NUMBERS |= {"walked": 1, "check": 1, "ids": 3, "text": 5, "symbols": 4, "symbol_text": 4, "step_bounded": 6}
 
 # ===== The records' words =====
 
@@ -280,15 +281,42 @@ def walked(data, most, limits):
     return min(most, len(steps.walk(data, 0, len(data), limits)) - 1)
 
 
+def behind_name(data, at, end, kind):
+    """Where the descriptor stands of what begins at `at`: in a struct after its field ID."""
+    if kind != FIELDS:
+        return at
+    _, after = var_uint(data, at, end)
+    refuse_if(after == end, 7, after)
+    return after
+
+
+def step_bounded(data, start, end, position, kind, most, limits):
+    """The change request A.8: "kind 4 exactly when that many pads were passed and another pad's descriptor comes next"."""
+    steps.limits_fit(limits)
+    refuse_if(kind > FIELDS, 50, 0)
+    inside(data, start, end, position)
+    refuse_if(most == 0, 67, 0)
+    at, passed = position, 0
+    while at < end:
+        descriptor = behind_name(data, at, end, kind)
+        if not steps.is_pad(data[descriptor]):
+            break
+        if passed == most:
+            return record(MORE, passed, at)
+        at = steps.pad_end(data, descriptor, end)
+        passed += 1
+    return step(data, start, end, at, kind, limits)
+
+
 def struct_pads(data, at, end):
     """How many pads a struct step passes, and whether it ends behind them."""
     pads = 0
     try:
         while at < end:
-            _, after = var_uint(data, at, end)
-            if after == end or not steps.is_pad(data[after]):
+            descriptor = behind_name(data, at, end, FIELDS)
+            if not steps.is_pad(data[descriptor]):
                 break
-            at = steps.pad_end(data, after, end)
+            at = steps.pad_end(data, descriptor, end)
             pads += 1
     except Refused:
         pass
@@ -372,7 +400,16 @@ def checked(data, limits):
 
 COUNTS = {"walked": walked, "ids": ids}
 
-SINGLE = {"step": step, "annotation": annotation, "step_in": step_in, "scalar": scalar, "number": number, "decimal": decimal, "timestamp": timestamp}
+SINGLE = {
+    "step": step,
+    "step_bounded": step_bounded,
+    "annotation": annotation,
+    "step_in": step_in,
+    "scalar": scalar,
+    "number": number,
+    "decimal": decimal,
+    "timestamp": timestamp,
+}
 OF_SYMBOLS = {"text": text, "symbols": symbols, "symbol_text": symbol_text}
 
 
@@ -516,7 +553,8 @@ def told_decimal(data, words):
 
 
 def asked(question):
-    """The oracle's question and what it is to answer; nothing of IDs and symbols, where 50 or 51 is answered, or with other limits, which ion-rust hasn't got."""
+    """The oracle's question and what it is to answer; nothing of IDs and symbols, where 50, 51, 67 or kind 4 is answered, or with other limits,
+    which ion-rust hasn't got."""
     if question.split(" ")[0] in OF_SYMBOLS:
         return None
     name, data, limits, numbers = parsed(question)
@@ -526,14 +564,14 @@ def asked(question):
     if name == "walked":
         return f"walk {text} 0 {len(data)}", steps.told(steps.walk(data, 0, len(data)))
     records = records_of(name, data, limits, *numbers)
-    if returned(records) in (50, 51):
+    if returned(records) in (50, 51, 67) or records[0][0] == MORE:
         return None
     if name == "decimal":
         return f"decimal {text} {numbers[0]} {numbers[1]}", told_decimal(data, records[0])
     start, end, position, *more = numbers
     if name == "timestamp":
         return None
-    if name in ("step", "steps"):
+    if name in ("step", "steps", "step_bounded"):
         rules = ["stream", "sequence", "struct"][more[0]]
         return f"{rules} {text} {position} {end} {len(records)}", " ; ".join(told(name, data, words) for words in records)
     if name == "annotation":

@@ -14,6 +14,7 @@ pub(crate) mod kind {
     pub(crate) const MARKER: u64 = 1;
     pub(crate) const VALUE: u64 = 2;
     pub(crate) const FIELD: u64 = 3;
+    pub(crate) const MORE: u64 = 4;
     pub(crate) const ANNOTATION: u64 = 5;
     pub(crate) const BODY: u64 = 6;
     pub(crate) const SCALAR: u64 = 7;

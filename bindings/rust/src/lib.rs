@@ -4,6 +4,7 @@
 
 mod annotations;
 mod answer;
+mod bounded;
 mod check;
 mod decimal;
 mod item;
@@ -19,6 +20,7 @@ mod timestamp;
 mod walk;
 
 pub use annotations::{annotation, annotations, Annotation, Annotations};
+pub use bounded::{items_bounded, step_bounded, Bounded, BoundedItems};
 pub use check::{check, Counts};
 pub use decimal::{decimal, Decimal};
 pub use item::{Item, Marker, Type, Value};

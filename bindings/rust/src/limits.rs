@@ -1,5 +1,6 @@
 //! The limits of a title.
 
+use crate::bounded::{self, Bounded, BoundedItems};
 use crate::check::{self, Counts};
 use crate::item::Item;
 use crate::part::Part;
@@ -62,6 +63,16 @@ impl Limits {
     /// [`items`](crate::items) by these limits.
     pub fn items(self, map: &[u8], part: Part) -> Items<'_> {
         Items::new(self, map, part)
+    }
+
+    /// [`step_bounded`](crate::step_bounded) by these limits.
+    pub fn step_bounded(self, map: &[u8], part: Part, position: usize, most: usize) -> Result<Bounded, Refusal> {
+        bounded::step_bounded_by(self, map, part, position, most)
+    }
+
+    /// [`items_bounded`](crate::items_bounded) by these limits.
+    pub fn items_bounded(self, map: &[u8], part: Part, most: usize) -> BoundedItems<'_> {
+        BoundedItems::new(self, map, part, most)
     }
 
     /// [`ids_begun`](crate::ids_begun) by these limits; 0 where that of annotations is out of its range.

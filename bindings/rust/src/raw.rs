@@ -34,6 +34,18 @@ extern "C" {
         out: *mut u8,
         out_len: usize,
     ) -> u64;
+    fn ion_map_step_bounded(
+        map: *const u8,
+        map_len: usize,
+        start: usize,
+        end: usize,
+        position: usize,
+        kind: u64,
+        most: usize,
+        annotations: usize,
+        out: *mut u8,
+        out_len: usize,
+    ) -> u64;
     fn ion_map_annotation(
         map: *const u8,
         map_len: usize,
@@ -200,6 +212,42 @@ pub fn step(
             end,
             position,
             kind,
+            annotations,
+            out.as_mut_ptr(),
+            out.len(),
+        )
+    }
+}
+
+/// One step through the part `start..end` past `most` pads at most.
+///
+/// ```
+/// let mut record = [0; ion_map::raw::RECORD_SIZE];
+/// assert_eq!(ion_map::raw::step_bounded(&[0x00, 0x00], 0, 2, 0, 0, 1, 255, &mut record), 0);
+/// assert_eq!(ion_map::raw::words(&record), [4, 1, 1, 0, 0, 0, 0, 0, 0]);
+/// assert_eq!(ion_map::raw::step_bounded(&[0x00, 0x00], 0, 2, 0, 0, 0, 255, &mut record), 67);
+/// ```
+#[allow(clippy::too_many_arguments)]
+pub fn step_bounded(
+    map: &[u8],
+    start: usize,
+    end: usize,
+    position: usize,
+    kind: u64,
+    most: usize,
+    annotations: usize,
+    out: &mut [u8],
+) -> u64 {
+    // SAFETY: as in `step`.
+    unsafe {
+        ion_map_step_bounded(
+            map.as_ptr(),
+            map.len(),
+            start,
+            end,
+            position,
+            kind,
+            most,
             annotations,
             out.as_mut_ptr(),
             out.len(),

@@ -82,6 +82,7 @@ refusals! {
     NOT_A_CONTAINER = 52, "stepping into what isn't a container or is null";
     INPUT_TOO_LONG = 54, "more input than is taken";
     NOT_THE_SYSTEM_TEXT = 66, "another system text than the nine joined";
+    NO_PADS_ALLOWED = 67, "a largest number of pads of 0";
     LIMIT_OUT_OF_RANGE = 68, "a limit outside its range";
 
     UNKNOWN_ANSWER = u64::MAX, "an answer that this crate doesn't know: the archive is another one than it was made for";

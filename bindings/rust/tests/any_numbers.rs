@@ -4,8 +4,9 @@ mod common;
 
 use common::short;
 use ion_map::{
-    annotation, annotations, decimal, int, items, raw, scalar, step, step_in, symbol_text, timestamp, var_int, var_uint,
-    walk, walked, Limits, Part, PartKind, Refusal, Scalar, Symbols, TimestampOr, SYSTEM_TEXT,
+    annotation, annotations, decimal, int, items, items_bounded, raw, scalar, step, step_bounded, step_in, symbol_text,
+    timestamp, var_int, var_uint, walk, walked, Bounded, Limits, Part, PartKind, Refusal, Scalar, Symbols, TimestampOr,
+    SYSTEM_TEXT,
 };
 use raw::RECORD_SIZE;
 use std::ops::Range;
@@ -25,6 +26,7 @@ fn refusals(map: &[u8], span: Range<usize>, position: usize) -> Vec<Option<Refus
     for kind in KINDS {
         let part = Part::new(kind, span.clone());
         refusals.push(step(map, part, position).err());
+        refusals.push(step_bounded(map, part, position, 1).err());
         refusals.push(step_in(map, part, position).err());
         refusals.push(scalar(map, part, position).err());
         refusals.push(timestamp(map, part, position).err());
@@ -120,6 +122,7 @@ fn short_buffers_and_unknown_kinds() {
         let mut out = [0xAA; RECORD_SIZE];
         let out = &mut out[..length];
         assert_eq!(raw::step(&map, 9, 0, 9, 9, 9, out), 51);
+        assert_eq!(raw::step_bounded(&map, 9, 0, 9, 9, 0, 9, out), 51);
         assert_eq!(raw::annotation(&map, 9, 0, 9, out), 51);
         assert_eq!(raw::step_in(&map, 9, 0, 9, 9, out), 51);
         assert_eq!(raw::scalar(&map, 9, 0, 9, 9, out), 51);
@@ -133,6 +136,7 @@ fn short_buffers_and_unknown_kinds() {
     for kind in [3, u64::MAX] {
         assert_eq!(raw::step(&map, 0, 2, 0, kind, LIMIT, &mut out), 50);
         assert_eq!(raw::steps(&map, 0, 2, 0, kind, LIMIT, &mut out), (50, 1));
+        assert_eq!(raw::step_bounded(&map, 0, 2, 0, kind, 0, LIMIT, &mut out), 50);
         assert_eq!(raw::number(&map, 0, 2, 0, kind, 0, &mut out), 50);
         assert_eq!(raw::words(&out), [9, 50, 0, 0, 0, 0, 0, 0, 0]);
     }
@@ -171,6 +175,7 @@ fn limits_of_any_size() {
                 let part = Part::new(PartKind::Stream, 0..end);
                 let refusals = [
                     limits.step(&map, part, position).err(),
+                    limits.step_bounded(&map, part, position, 1).err(),
                     limits.step_in(&map, part, position).err(),
                     limits.scalar(&map, part, position).err(),
                     limits.timestamp(&map, part, position).err(),
@@ -204,6 +209,9 @@ fn longer_buffers_keep_their_further_bytes() {
 fn ask(map: &[u8]) {
     for kind in KINDS {
         check_run(map, Part::new(kind, 0..map.len()));
+        for most in [1, 2, usize::MAX] {
+            check_bounded(map, Part::new(kind, 0..map.len()), most);
+        }
     }
     for position in 0..=map.len() {
         refusals(map, 0..map.len(), position);
@@ -265,6 +273,25 @@ fn check_run(map: &[u8], part: Part) {
         at = span.end;
     }
     assert_eq!(run.position(), part.end);
+}
+
+/// By bounded steps the same items, the same end or the same refusal are reached.
+fn check_bounded(map: &[u8], part: Part, most: usize) {
+    let plain: Vec<_> = items(map, part).collect();
+    let mut bounded = items_bounded(map, part, most);
+    let mut reached = Vec::new();
+    let mut at = part.start;
+    while let Some(met) = bounded.next() {
+        match met {
+            Ok(Bounded::More { pads, position }) => {
+                assert!(pads == most && at + pads <= position && position < part.end);
+            }
+            Ok(Bounded::Reached(item)) => reached.push(Ok(item)),
+            Err(refusal) => reached.push(Err(refusal)),
+        }
+        at = bounded.position();
+    }
+    assert_eq!(reached, plain);
 }
 
 /// What is handed out can be looked at: it is there, and stepping in gives the body that the item has.

@@ -1,8 +1,9 @@
 //! A short example of each function, with the maps at the edges.
 
 use ion_map::{
-    annotation, annotations, decimal, ids_begun, int, items, raw, scalar, step, step_in, timestamp, var_int, var_uint, walk,
-    walked, Body, Item, Limits, Part, PartKind, Precision, Refusal, Scalar, Timestamp, TimestampOr, Type,
+    annotation, annotations, decimal, ids_begun, int, items, items_bounded, raw, scalar, step, step_bounded, step_in,
+    timestamp, var_int, var_uint, walk, walked, Body, Bounded, Item, Limits, Part, PartKind, Precision, Refusal, Scalar,
+    Timestamp, TimestampOr, Type,
 };
 use std::error::Error;
 
@@ -70,6 +71,44 @@ fn steps_through_a_struct() {
     };
     assert_eq!((id, value.span(), value.descriptor()), (5, 3..6, 4));
     assert_eq!(step(&map, body, 6), Ok(Item::End { position: 6 }));
+}
+
+/// Kind 4 where another pad comes behind the most, else what the step answers.
+#[test]
+fn bounded_steps() {
+    let stream = |map: &[u8], position, most| step_bounded(map, Part::stream(map), position, most);
+    let body = |map: &[u8], most| step_bounded(map, Part::new(PartKind::Struct, 0..map.len()), 0, most);
+    let more = |pads, position| Ok(Bounded::More { pads, position });
+    let end = |position| Ok(Bounded::Reached(Item::End { position }));
+    assert_eq!(stream(&[0x00, 0x01], 0, 1), more(1, 1));
+    assert_eq!(stream(&[0x00, 0x01], 1, 1), Err(refusal(6, 2)));
+    assert_eq!(stream(&[0x00, 0x00, 0x00], 0, 2), more(2, 2));
+    assert_eq!(stream(&[0x00, 0x00], 0, 2), end(2));
+    assert_eq!(stream(&[0x00], 0, 1), end(1));
+    assert_eq!(stream(&[], 0, 0), Err(refusal(Refusal::NO_PADS_ALLOWED, 0)));
+    assert_eq!(stream(&[0x00], 2, 0), Err(refusal(Refusal::OUTSIDE, 0)));
+    assert_eq!(body(&[0x80, 0x00, 0x80, 0x00], 1), more(1, 2));
+    assert_eq!(body(&[0x80, 0x00, 0x00], 1), Err(refusal(3, 3)));
+    assert_eq!(body(&[0x80, 0x00, 0x80], 1), Err(refusal(7, 3)));
+}
+
+/// A part of nothing but pads comes back after each bound, and the pads of all calls are all.
+#[test]
+fn bounded_items_of_pads() {
+    let map = [0x00; 1000];
+    for most in [1, 7, 999, 1000, usize::MAX] {
+        let mut items = items_bounded(&map, Part::stream(&map), most);
+        let mut passed = 0;
+        while let Some(met) = items.next() {
+            let Ok(Bounded::More { pads, position }) = met else {
+                panic!("an item among pads")
+            };
+            passed += pads;
+            assert_eq!((pads, position, items.position()), (most, passed, passed));
+        }
+        assert_eq!((passed, items.position()), (999 / most * most, 1000));
+    }
+    assert_eq!(items_bounded(&map, Part::stream(&map), 0).count(), 1);
 }
 
 /// The pads, and one more unless the step ended or was refused before any ID.

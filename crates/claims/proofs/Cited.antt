@@ -17,6 +17,10 @@ use Rattle.stepping.proofs.Soundness.{steps-sound, steps-repeat, refusals-keep}
 use Rattle.stepping.proofs.Completeness.{steps-complete}
 use Rattle.stepping.proofs.Tiling.{runs}
 use Rattle.counting.proofs.Meanings.{ids-sound, no-ids-unread}
+use Rattle.counting.proofs.MoreMeant.{more-sound, more-complete, else-the-step}
+use Rattle.counting.proofs.Repeating.{repeating}
+use Rattle.counting.proofs.Looking.{work-bounded}
+use Rattle.counting.proofs.BoundedTiling.{bounded-tiling, bounded-runs}
 use Rattle.values.proofs.Meanings.{scalars-meant}
 use Rattle.values.proofs.Edges.{edges}
 use Rattle.symbols.proofs.Told.{texts-told}
@@ -49,6 +53,8 @@ module _ (M : Type 1) (𝓤 : URA M) (H : Heap 𝓤) (𝓜 : Model 𝓤 H) (𝓖
         exist = runs;
         reached = still-reached;
         exported = runs-of-calls;
+        boundedTiled = bounded-tiling;
+        boundedExist = bounded-runs;
       }
 
 pub equal : Equal
@@ -68,6 +74,11 @@ equal =
       stepsComplete = steps-complete;
       idsSound = ids-sound;
       noIdsUnread = no-ids-unread;
+      moreSound = more-sound;
+      moreComplete = more-complete;
+      elseTheStep = else-the-step;
+      repeating = repeating;
+      workBounded = work-bounded;
       scalars = scalars-meant;
       decimalsSound = decimals-sound;
       decimalsComplete = decimals-complete;

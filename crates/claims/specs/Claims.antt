@@ -15,6 +15,7 @@ use Rattle.bodies.specs.TimestampMeaning.{TimestampsSound, TimestampsComplete, 
 use Rattle.stepping.specs.Meaning.{StepsSound, StepsComplete, StepsRepeat, RefusalsKeep}
 use Rattle.stepping.specs.Theorems.{RunsExist}
 use Rattle.counting.specs.Meaning.{IdsSound, NoIdsUnread}
+use Rattle.counting.specs.Theorems.{MoreSound, MoreComplete, ElseTheStep, Repeating, WorkBounded, BoundedTiling, BoundedRunsExist}
 use Rattle.values.specs.Meaning.{ScalarsMeant}
 use Rattle.values.specs.Edges.{Edges}
 use Rattle.symbols.specs.TextTheorems.{TextsTold, TwoStages, StepsEnough, RulingOfRuns, PlacesGiven, ListOfRuns, EntryOfRuns}
@@ -52,6 +53,9 @@ module _ (M : Type 1) (𝓤 : URA M) (H : Heap 𝓤) (𝓜 : Model 𝓤 H) (𝓖
     pub reached : StillReached
     -- The exported function of many steps makes such a run.
     pub exported : RunsOfCalls
+    -- Runs of bounded steps tile the part likewise, by the rules, and exist.
+    pub boundedTiled : BoundedTiling
+    pub boundedExist : BoundedRunsExist
 
 -- 2, equal: "what the Ion 1.0 Binary Encoding defines is proved against a definition made from it", in both directions: what is answered is what the document
 -- says (sound), and what it says within the limits is answered (complete).
@@ -74,6 +78,13 @@ pub record Equal : Type 0 where
   -- by the change request A.3, "how many IDs that step began to read": one for each pad skipped, where it starts, and one more where what follows them starts
   pub idsSound : IdsSound
   pub noIdsUnread : NoIdsUnread
+  -- by the change request A.8, the bounded step: "kind 4 exactly when that many pads were passed and another pad's descriptor comes next", else the step's
+  -- answer; "repeating the bounded step reaches the item, end or refusal that the plain step gives"; and its work is bounded
+  pub moreSound : MoreSound
+  pub moreComplete : MoreComplete
+  pub elseTheStep : ElseTheStep
+  pub repeating : Repeating
+  pub workBounded : WorkBounded
   -- scalars
   pub scalars : ScalarsMeant
   -- decimals, by the change request A.1: "the exponent, negative zero as 0, and the coefficient as an Int's answer. An empty body is zero with exponent 0"; and

@@ -2,11 +2,12 @@
 -- Assumes nothing.
 use Prim.Native.Nat.{ℕ, _-_, _≤_, _<_}
 use native.Mathlib.Omega.{arith}
-use mathlib.Core.Path.{_≡_, refl, _∙_, sym, ap}
-use mathlib.Core.Bool.{true, false}
+use mathlib.Core.Path.{_≡_, refl, _∙_, sym, ap, subst}
+use mathlib.Core.Bool.{Bool, true, false}
 use mathlib.Core.List.{List}
 use lib.ListN.{length}
 use Rattle.numbers.specs.Outcome.{Outcome, gives, refuses, andThen, outsideOf}
+use Rattle.numbers.proofs.Outcomes.{by-test}
 use Rattle.framing.specs.Limits.{outOfRange}
 use Rattle.stepping.specs.Items.{Item, finish}
 use Rattle.stepping.specs.Answers.{Tile, skip, hand, tileAt, passing, stop, found, stepOf, answerAt}
@@ -15,7 +16,8 @@ use Rattle.stepping.specs.Private.Tiles.{handed}
 use Rattle.stepping.specs.declared.cursor.Cursor.{Cursor}
 use Rattle.stepping.specs.declared.cursor.Rules.{Rules}
 use Rattle.stepping.proofs.Places.{pad-ends}
-use Rattle.stepping.proofs.PadSkipping.{at-end, at-pad, skipping, of-skipping, answered}
+use Rattle.stepping.proofs.PadSkipping.{Skipping, at-end, at-pad, skipping, of-skipping, answered}
+use Rattle.counting.specs.Counted.{unread}
 
 module _ (limit : ℕ) (rules : Rules) (s : List ℕ) where
   pub found-unranged : (c : Cursor) → outOfRange limit ≡ true → found limit rules s c ≡ stop (refuses 68 0)
@@ -26,7 +28,20 @@ module _ (limit : ℕ) (rules : Rules) (s : List ℕ) where
   unfolding found
   found-outside c g o = rw (g, o)
 
+  -- refused before anything is read
+  pub found-unread : (c : Cursor) → unread limit s c ≡ true → (n : ℕ) × (found limit rules s c ≡ stop (refuses n 0))
+  found-unread c =
+      by-test (λ (t : Bool). t ≡ true → (n : ℕ) × (found limit rules s c ≡ stop (refuses n 0))) (outOfRange limit)
+      (λ g _. (68, found-unranged c g))
+      (λ g o. (50, found-outside c g o))
+
 module _ (limit : ℕ) (rules : Rules) (s : List ℕ) (g : outOfRange limit ≡ false) where
+  -- it is what a derivation finds
+  pub found-skipping : (at hi : ℕ) → at ≤ hi → hi ≤ length s → Skipping limit rules s hi at (found limit rules s (cursor at hi))
+  found-skipping at hi l m =
+      let w = skipping limit rules s hi (hi - at) at l (omega arith) in
+      subst (Skipping limit rules s hi at) (of-skipping limit rules s hi g l m w) w
+
   pub found-end : (hi : ℕ) → hi ≤ length s → found limit rules s (cursor hi hi) ≡ stop (gives (finish hi))
   found-end hi m = sym (of-skipping limit rules s hi g (omega arith) m at-end)
 

@@ -2,5 +2,11 @@ pub mod PadReading
 pub mod PadTiles
 pub mod Finding
 pub mod Counting
+pub mod Bounding
+pub mod Passing
+pub mod Repeating
+pub mod BoundedTiling
+pub mod Looking
+pub mod MoreMeant
 pub mod Meanings
 pub mod Examples

@@ -14,7 +14,7 @@ use Rattle.numbers.specs.Descriptor.{descriptorOf}
 use Rattle.numbers.proofs.Outcomes.{by-case}
 use Rattle.framing.specs.Answers.{sizedBy, lengthAt, padded, padAt, padOrNone, readPad}
 use Rattle.framing.proofs.Completeness.{peeked-here}
-use Rattle.framing.proofs.Nibbles.{pad-kind}
+use Rattle.framing.proofs.Nibbles.{pad-kind, is-pad}
 use Rattle.counting.specs.Pads.{beginsPad}
 
 -- a pad's descriptor is below 15
@@ -24,6 +24,11 @@ pad-below b h =
     let k = pad-kind (b / 16) (b % 16) h in
     let z : b / 16 ≡ 0 = k .type-is in
     by-case (eqb (b % 16) 15) (λ t. absurd (k .no-null (eqb-true (b % 16) 15 t))) (λ t. omega (arith, eqb-false (b % 16) 15 t))
+
+-- and each byte below 15 is one
+pub below-pad : (b : ℕ) → b < 15 → beginsPad b ≡ true
+unfolding beginsPad
+below-pad b h = is-pad (b / 16) (b % 16) (omega arith) (omega arith)
 
 module _ (s : List ℕ) (at end : ℕ) (l : at < end) (m : end ≤ length s) (b : beginsPad (getD s at 0) ≡ true) where
   -- its length code is the byte

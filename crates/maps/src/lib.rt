@@ -2,6 +2,7 @@
 ghost use mathlib.Core.Path.{_≡_};
 ghost use Rattle.maps.specs.Private.Inside.{insideOf};
 
+pub mod bounded;
 pub mod exports;
 pub mod steps;
 pub mod symbol_texts;

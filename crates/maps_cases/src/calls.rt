@@ -3,6 +3,7 @@ ghost use mathlib.Core.Path.{_≡_};
 ghost use Prim.Native.Nat.{_<_, _≤_};
 ghost use lib.ListN.{length};
 use crate::symbol_calls;
+use maps::bounded::ion_map_step_bounded;
 use maps::exports::ion_map_annotation;
 use maps::exports::ion_map_check;
 use maps::exports::ion_map_decimal;
@@ -64,6 +65,9 @@ fn size_word(asked: &[u8]) -> usize {
     if check::same(asked, b"number") {
         return 7;
     }
+    if check::same(asked, b"step_bounded") {
+        return 7;
+    }
     if check::same(asked, b"step") {
         return 6;
     }
@@ -104,6 +108,27 @@ fn steps(
     Line::new().number(returned).number(count)
 }
 
+// What a bounded step returns.
+fn step_bounded(
+    line: &[u8],
+    map: &[u8],
+    start: usize,
+    end: usize,
+    position: usize,
+    out: &mut [u8],
+) -> Line {
+    Line::new().number(ion_map_step_bounded(
+        map,
+        start,
+        end,
+        position,
+        argument(line, 5) as u64,
+        argument(line, 6),
+        number_or(line, 8, ANNOTATION_LIMIT),
+        out,
+    ))
+}
+
 // The call that a line asks for, with a buffer of the length that it says: what is returned.
 fn called(line: &[u8], map: &[u8], out: &mut [u8]) -> Line {
     let asked = word(line, 0);
@@ -124,6 +149,9 @@ fn called(line: &[u8], map: &[u8], out: &mut [u8]) -> Line {
     }
     if check::same(asked, b"steps") {
         return steps(line, map, start, end, position, out);
+    }
+    if check::same(asked, b"step_bounded") {
+        return step_bounded(line, map, start, end, position, out);
     }
     if check::same(asked, b"annotation") {
         return Line::new().number(ion_map_annotation(map, start, end, position, out));

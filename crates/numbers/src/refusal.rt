@@ -89,5 +89,7 @@ pub const NOT_A_CONTAINER: u64 = 52;
 pub const INPUT_TOO_LONG: u64 = 54;
 // A lent system text that isn't the nine joined.
 pub const NOT_THE_SYSTEM_TEXT: u64 = 66;
+// A largest number of pads of 0.
+pub const NO_PADS_ALLOWED: u64 = 67;
 // A limit outside its range.
 pub const LIMIT_OUT_OF_RANGE: u64 = 68;

@@ -40,6 +40,11 @@ abbrev pub words : Outcome Item → List ℕ
 words (gives i) = withLength (first.itemWords i) (itemLength i)
 words (refuses number position) = refusedWords number position
 
+-- ---- the bounded step: by the change request A.8 kind 4 has the number of pads passed "as word 1, with the new position as word 2, the rest 0"
+
+abbrev pub moreWords : ℕ → ℕ → List ℕ
+moreWords pads position = 4 ∷ pads ∷ position ∷ 0 ∷ 0 ∷ 0 ∷ 0 ∷ 0 ∷ 0 ∷ []
+
 -- ---- the annotation step: 0
 
 abbrev pub annotationWords : ℕ → Outcome Annotated → List ℕ

@@ -8,7 +8,7 @@ ghost use Rattle.bodies.specs.Decimal.{decimalRead};
 ghost use Rattle.stepping.specs.Read.{itemRead};
 ghost use Rattle.values.specs.Read.{bodyRead, scalarRead, datedRead};
 ghost use Rattle.records.specs.FirstWords.{enteredAt, oneIf};
-ghost use Rattle.records.specs.Words.{words, valueWords, endWords, refusedWords, annotationWords, bodyWords, scalarWords, decimalWords, fieldsWord, stampWords, timestampWords};
+ghost use Rattle.records.specs.Words.{words, valueWords, endWords, moreWords, refusedWords, annotationWords, bodyWords, scalarWords, decimalWords, fieldsWord, stampWords, timestampWords};
 use crate::buffer::RECORD_WORDS;
 use crate::buffer::REFUSED;
 use bodies::decimal::Decimal;
@@ -89,6 +89,13 @@ pub fn item_words(item: Item) -> [u64; RECORD_WORDS]
         Item::Field { id, start, value } => value_words(3, start, value, id),
         Item::Refused(refusal) => refused_words(refusal),
     }
+}
+
+// The words of kind 4: how many pads a bounded step passed, and where it goes on.
+pub fn more_words(pads: usize, position: usize) -> [u64; RECORD_WORDS]
+    ensures { λ r. ⌜ r ≡ moreWords pads position ⌝ }
+{
+    [4, pads as u64, position as u64, 0, 0, 0, 0, 0, 0]
 }
 
 // The words of a refusal.

@@ -56,7 +56,7 @@ module _ (limit : ℕ) (s : List ℕ) (hi : ℕ) where
   unfolding fieldAt
   id-read a n id l h = rw (var-uint-complete s a hi n id l)
 
-  pad-complete : {rules : Rules} {a n : ℕ} → NameBytes s hi rules a n → (q : Padding) → NopPadding s n hi q → n ≤ a + 9 → q .body ≤ n + 1 + 9 → tileAt limit rules s a hi ≡ gives (skip (q .body) (q .end))
+  pub pad-complete : {rules : Rules} {a n : ℕ} → NameBytes s hi rules a n → (q : Padding) → NopPadding s n hi q → n ≤ a + 9 → q .body ≤ n + 1 + 9 → tileAt limit rules s a hi ≡ gives (skip (q .body) (q .end))
   unfolding tileAt framedAt namedAt
   pad-complete (in-stream {a}) q b l m = rw (of-type (getD s a 0) 0 (b .type) (λ e. omega arith), pads-complete limit s a hi q b m .1)
   pad-complete (in-sequence {a}) q b l m = rw (pads-complete limit s a hi q b m .1)

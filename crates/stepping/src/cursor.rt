@@ -291,7 +291,7 @@ fn read_tile(
 }
 
 // The cursor that an answer leaves.
-fn after_item(cursor: Cursor, item: Item) -> Cursor
+pub fn after_item(cursor: Cursor, item: Item) -> Cursor
     ensures { λ r. ⌜ r ≡ after cursor (itemRead item) ⌝ }
 {
     match item {
