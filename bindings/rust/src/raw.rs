@@ -558,8 +558,10 @@ pub fn symbol_text(
     }
 }
 
-/// The words of a check's record, and its bytes.
+/// The words of a check's record.
 pub const CHECK_WORDS: usize = 16;
+
+/// The bytes of a check's record.
 pub const CHECK_SIZE: usize = CHECK_WORDS * 8;
 
 /// The check of a whole map: kind 12 and fifteen counts, or a refusal.
