@@ -79,7 +79,7 @@ fn main() {
 }
 
 /// The functions that the comparison calls.
-const EXPORTS: [&str; 13] = [
+const EXPORTS: [&str; 14] = [
     "ion_map_step",
     "ion_map_steps",
     "ion_map_annotation",
@@ -93,6 +93,7 @@ const EXPORTS: [&str; 13] = [
     "ion_map_text",
     "ion_map_symbols",
     "ion_map_symbol_text",
+    "ion_map_step_bounded",
 ];
 
 /// Links a program with our reader, and the fuzzer's with libFuzzer.

@@ -123,6 +123,11 @@ impl Expected {
         }
     }
 
+    /// Kind 4: so many pads were passed, and the next step begins here.
+    pub fn more(pads: usize, position: usize) -> Self {
+        Expected::exactly([4, pads as u64, position as u64, 0, 0, 0, 0, 0, 0])
+    }
+
     pub fn annotation(part: Part, annotation: Annotation) -> Self {
         match annotation {
             Annotation::Id { id, next } => {
@@ -310,7 +315,7 @@ impl Expected {
     /// Where the next call begins.
     pub fn cursor(&self, given: usize) -> usize {
         match self.words[0] {
-            0 => self.words[2] as usize,
+            0 | 4 => self.words[2] as usize,
             9 => given,
             _ => self.words[6] as usize,
         }

@@ -21,6 +21,7 @@ pub struct Plan {
     pub limits: usize,
     /// Maps with symbol tables.
     pub symbols: usize,
+    pub pads: usize,
 }
 
 pub const FULL: Plan = Plan {
@@ -31,6 +32,7 @@ pub const FULL: Plan = Plan {
     parts: 10_000_000,
     limits: 400_000,
     symbols: 1_000_000,
+    pads: 400_000,
 };
 
 pub const SHORT: Plan = Plan {
@@ -41,6 +43,7 @@ pub const SHORT: Plan = Plan {
     parts: 1_000_000,
     limits: 40_000,
     symbols: 100_000,
+    pads: 40_000,
 };
 
 /// For the wrong readers.
@@ -52,6 +55,7 @@ pub const SMALLEST: Plan = Plan {
     parts: 20_000,
     limits: 8_000,
     symbols: 20_000,
+    pads: 4_000,
 };
 
 /// Bytes that, of all, change the most where they stand.
@@ -85,6 +89,10 @@ pub fn ask_all<R: Reader>(session: &mut Session<R>, plan: Plan, seed: u64) {
     for number in 0..plan.limits {
         by_limits(session, &mut random, number);
     }
+    session.stage("pads");
+    for _ in 0..plan.pads {
+        pads(session, &mut random);
+    }
     session.stage("end");
 }
 
@@ -107,8 +115,9 @@ pub fn cut(end: usize) -> Part {
 
 /// Every question at a position.
 pub fn ask_at<R: Reader>(session: &mut Session<R>, map: &[u8], part: Part) {
-    for rules in [STREAM, SEQUENCE, STRUCT] {
+    for (rules, most) in [STREAM, SEQUENCE, STRUCT].into_iter().zip([1, 2, 1]) {
         session.ask(map, Ask::Run(rules), part);
+        session.ask(map, Ask::Bounded(rules, most), part);
     }
     session.ask(map, Ask::Ids, part);
     session.ask(map, Ask::Scalar, part);
@@ -617,7 +626,11 @@ fn any_ask(random: &mut Random) -> Ask {
     match random.below(18) {
         0..=3 => Ask::Run(rules),
         4 | 5 => Ask::Batch(rules, random.from_to(RECORD, MOST_ROOM)),
-        6 => random.pick(&[Ask::Annotations, Ask::Ids]),
+        6 => match random.below(3) {
+            0 => Ask::Annotations,
+            1 => Ask::Ids,
+            _ => Ask::Bounded(rules, any_most(random)),
+        },
         7 | 8 => Ask::StepIn,
         9 | 10 => Ask::Scalar,
         11 | 12 => Ask::Number(rules, int_size(random)),
@@ -635,6 +648,54 @@ fn int_size(random: &mut Random) -> usize {
         1 => random.pick(&[usize::MAX, usize::MAX - 1, 1 << 63, 1 << 32]),
         _ => random.below(6),
     }
+}
+
+// ===== Pads =====
+
+/// A largest number of pads, now and then none or more than there can be.
+fn any_most(random: &mut Random) -> usize {
+    match random.below(8) {
+        0 => 0,
+        1 => random.pick(&[usize::MAX, usize::MAX - 1, 1 << 63, 1 << 32]),
+        _ => random.from_to(1, 6),
+    }
+}
+
+/// Pads and little else, by each of the rules and with several largest numbers.
+fn pads<R: Reader>(session: &mut Session<R>, random: &mut Random) {
+    if session.is_done() {
+        return;
+    }
+    for rules in [STREAM, SEQUENCE, STRUCT] {
+        let bytes = among_pads(random, rules == STRUCT);
+        let whole = Part::whole(&bytes);
+        let end = random.below(bytes.len() + 1);
+        let position = random.below(bytes.len() + 1);
+        for part in [whole, cut(end), whole.at(position)] {
+            session.ask(&bytes, Ask::Run(rules), part);
+            session.ask(&bytes, Ask::Ids, part);
+            for most in [1, 2, 3, any_most(random)] {
+                session.ask(&bytes, Ask::Bounded(rules, most), part);
+            }
+        }
+    }
+}
+
+fn among_pads(random: &mut Random, is_struct: bool) -> Vec<u8> {
+    let mut bytes = Vec::new();
+    for _ in 0..random.from_to(1, 3) {
+        for _ in 0..random.below(12) {
+            if is_struct {
+                bytes.extend(random.id());
+            }
+            bytes.extend(random.word("00 00 00 01AA 02FFFF 0E80 0E81AA 0E0081AA"));
+        }
+        if is_struct && !random.one_in(12) {
+            bytes.extend(random.id());
+        }
+        bytes.extend(random.word("20 2105 0F E00100EA E3818420 - 01 0E 0E7F F0 B100 D28000"));
+    }
+    bytes
 }
 
 // ===== Limits =====

@@ -222,6 +222,8 @@ impl<'a, R: Reader> Bench<'a, R> {
             Ask::Walk => self.walk(part),
             Ask::Walked(most) => self.walked(part, most),
             Ask::Ids => self.ids(part),
+            Ask::Bounded(_, 0) => self.refused(question, 67),
+            Ask::Bounded(rules, most) => self.bounded(part, rules, most),
         };
         self.verdict_of(fine)
     }
@@ -289,6 +291,49 @@ impl<'a, R: Reader> Bench<'a, R> {
             ends += (expected.is_end() || expected.is_refusal()) as usize;
         }
         true
+    }
+
+    /// Bounded steps until the answer is the step's, which is the Rust's, for each item of the part.
+    fn bounded(&mut self, part: Part, rules: u64, most: usize) -> bool {
+        let asked = self.asked(part);
+        let mut steps = Steps::new(&asked, RULES[rules as usize]);
+        let mut part = part;
+        let mut ends = 0;
+        while ends < 2 {
+            for position in Pads::of(self.map, part, rules).bounds(most) {
+                let more = Expected::more(most, position);
+                if !self.bounded_step(&mut part, rules, most, &more) {
+                    return false;
+                }
+            }
+            let expected = Expected::item(steps.next());
+            if !self.bounded_step(&mut part, rules, most, &expected) {
+                return false;
+            }
+            if expected.is_by_higher_limit() {
+                return true;
+            }
+            ends += (expected.is_end() || expected.is_refusal()) as usize;
+        }
+        true
+    }
+
+    /// One bounded step, after which the part is at the cursor that it left.
+    fn bounded_step(&mut self, part: &mut Part, rules: u64, most: usize, expected: &Expected) -> bool {
+        let room = room_for(*part);
+        let lent = self.desk.lend(room);
+        let returned = self.reader.step_bounded(self.map, *part, rules, most, lent);
+        if !self.check(*part, room, returned, expected) {
+            return false;
+        }
+        let record = self.desk.record();
+        let next = self.reader.cursor(self.map, *part, rules, record);
+        let wanted = match expected.is_by_higher_limit() {
+            true => next,
+            false => expected.cursor(part.position),
+        };
+        part.position = next;
+        self.check_cursor(wanted, next)
     }
 
     fn check_cursor(&mut self, wanted: usize, next: usize) -> bool {
@@ -644,6 +689,7 @@ impl<'a, R: Reader> Bench<'a, R> {
             Ask::Timestamp => (Entry::Timestamp, 0, 0),
             Ask::Number(form, size) => (Entry::Number, form, size),
             Ask::Decimal => (Entry::Decimal, 0, 0),
+            Ask::Bounded(rules, most) => (Entry::Bounded, rules, most),
             Ask::Walk | Ask::Walked(_) | Ask::Ids | Ask::Short(..) => {
                 unreachable!("asked elsewhere")
             }
@@ -687,6 +733,7 @@ impl<'a, R: Reader> Bench<'a, R> {
             Entry::Timestamp => reader.timestamp(map, part, out),
             Entry::Number => reader.number(map, part, kind, size, out),
             Entry::Decimal => reader.decimal(map, part, out),
+            Entry::Bounded => reader.step_bounded(map, part, kind, size, out),
         }
     }
 }

@@ -98,6 +98,18 @@ mod exported {
             annotations: usize,
             depth: usize,
         ) -> u64;
+        pub fn ion_map_step_bounded(
+            map: *const u8,
+            length: usize,
+            start: usize,
+            end: usize,
+            position: usize,
+            kind: u64,
+            most: usize,
+            annotations: usize,
+            out: *mut u8,
+            room: usize,
+        ) -> u64;
         pub fn ion_map_ids(
             map: *const u8,
             length: usize,
@@ -202,11 +214,12 @@ pub trait Reader {
     fn decimal(&self, map: &[u8], part: Part, out: &mut [u8]) -> u64;
     fn walked(&self, map: &[u8], most: u64, limits: Limits) -> u64;
     fn ids(&self, map: &[u8], part: Part) -> u64;
+    fn step_bounded(&self, map: &[u8], part: Part, kind: u64, most: usize, out: &mut [u8]) -> u64;
 
     /// The cursor for the next call: past an item, at the end, and after a refusal the one given.
     fn cursor(&self, _map: &[u8], part: Part, _kind: u64, record: Record) -> usize {
         match record.kind() {
-            0 => record.0[2] as usize,
+            0 | 4 => record.0[2] as usize,
             9 => part.position,
             _ => record.0[6] as usize,
         }
@@ -352,6 +365,23 @@ impl Reader for Exports {
                 part.end,
                 part.position,
                 part.limits.annotations,
+            )
+        }
+    }
+
+    fn step_bounded(&self, map: &[u8], part: Part, kind: u64, most: usize, out: &mut [u8]) -> u64 {
+        unsafe {
+            exported::ion_map_step_bounded(
+                map.as_ptr(),
+                map.len(),
+                part.start,
+                part.end,
+                part.position,
+                kind,
+                most,
+                part.limits.annotations,
+                out.as_mut_ptr(),
+                out.len(),
             )
         }
     }

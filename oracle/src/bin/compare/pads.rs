@@ -11,6 +11,8 @@ const MOST_BYTES: usize = 9;
 pub struct Pads {
     start: usize,
     pub ends: Vec<usize>,
+    /// Whether it is a pad all the same, by its descriptor.
+    is_next: bool,
 }
 
 impl Pads {
@@ -19,11 +21,21 @@ impl Pads {
         let mut pads = Pads {
             start: part.position,
             ends: Vec::new(),
+            is_next: false,
         };
         while let Some(end) = past_pad(map, pads.place(), part.end, rules) {
             pads.ends.push(end);
         }
+        let next = descriptor(map, pads.place(), part.end, rules);
+        pads.is_next = next.is_some_and(|descriptor| map[descriptor] < 15);
         pads
+    }
+
+    /// Where steps past `most` pads at most come back: each time that so many were passed and another comes.
+    pub fn bounds(&self, most: usize) -> Vec<usize> {
+        let met = self.ends.len() + self.is_next as usize;
+        let count = met.saturating_sub(1) / most;
+        (1..=count).map(|n| self.ends[n * most - 1]).collect()
     }
 
     /// Where the last pad ends: the position itself where there is none.

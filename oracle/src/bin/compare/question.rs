@@ -26,9 +26,10 @@ pub enum Entry {
     Timestamp,
     Number,
     Decimal,
+    Bounded,
 }
 
-pub const ENTRIES: [Entry; 8] = [
+pub const ENTRIES: [Entry; 9] = [
     Entry::Step,
     Entry::Steps,
     Entry::Annotation,
@@ -37,6 +38,7 @@ pub const ENTRIES: [Entry; 8] = [
     Entry::Timestamp,
     Entry::Number,
     Entry::Decimal,
+    Entry::Bounded,
 ];
 
 #[derive(Clone, Copy, Debug, PartialEq)]
@@ -60,6 +62,8 @@ pub enum Ask {
     Walked(u64),
     /// How many field IDs the struct step begins to read.
     Ids,
+    /// Steps by these rules past so many pads at most, until an end or a refusal, and once more.
+    Bounded(u64, usize),
     /// An entry with a buffer of so many bytes, fewer than a record has.
     Short(Entry, usize),
 }
@@ -71,7 +75,7 @@ pub struct Question {
 }
 
 /// What is counted apart, in the order of the report.
-pub const KINDS: [&str; 18] = [
+pub const KINDS: [&str; 20] = [
     "runs of stream steps",
     "runs of sequence steps",
     "runs of struct steps",
@@ -90,6 +94,8 @@ pub const KINDS: [&str; 18] = [
     "limits out of range (68)",
     "field IDs begun, by the pads counted",
     "timestamps, and scalars as such",
+    "runs of bounded steps",
+    "no pads allowed (67)",
 ];
 
 impl Question {
@@ -114,6 +120,8 @@ impl Question {
             Ask::Walk => 11,
             Ask::Walked(_) => 12,
             Ask::Ids => 16,
+            Ask::Bounded(_, 0) => 19,
+            Ask::Bounded(..) => 18,
         }
     }
 
@@ -131,6 +139,7 @@ impl Question {
             Ask::Walk => &["ion_map_step", "ion_map_step_in"],
             Ask::Walked(_) => &["ion_map_walked"],
             Ask::Ids => &["ion_map_ids"],
+            Ask::Bounded(..) | Ask::Short(Entry::Bounded, _) => &["ion_map_step_bounded"],
             Ask::Short(Entry::Steps, _) => &["ion_map_steps"],
         }
     }
@@ -161,7 +170,7 @@ impl Question {
             _ => self.part,
         };
         let is_known = match self.ask {
-            Ask::Run(rules) | Ask::Batch(rules, _) => rules <= STRUCT,
+            Ask::Run(rules) | Ask::Batch(rules, _) | Ask::Bounded(rules, _) => rules <= STRUCT,
             Ask::Number(form, _) => form <= INT,
             _ => true,
         };
@@ -208,6 +217,7 @@ impl fmt::Display for Ask {
             Ask::Walk => write!(f, "walk"),
             Ask::Walked(most) => write!(f, "items of {most} calls of the walk"),
             Ask::Ids => write!(f, "field IDs begun"),
+            Ask::Bounded(rules, most) => write!(f, "steps of kind {rules} past {most} pads"),
             Ask::Short(entry, room) => write!(f, "{entry:?} into {room} bytes"),
         }
     }

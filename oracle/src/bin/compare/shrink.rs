@@ -134,6 +134,10 @@ fn with_less_asked(case: &Case) -> impl Iterator<Item = Case> + '_ {
             sizes.map(|size| Ask::Number(form, size)).collect()
         }
         Ask::Walked(most) => (0..most.min(64)).map(Ask::Walked).collect(),
+        Ask::Bounded(rules, most) => {
+            let lower = 0..most.min(64);
+            lower.map(|most| Ask::Bounded(rules, most)).collect()
+        }
         _ => Vec::new(),
     };
     asks.into_iter().map(move |ask| Case {

@@ -3,6 +3,7 @@
 
 use crate::expected::{inside_wrapper, var_uint};
 use crate::ours::{Exports, Part, Reader, Record, ANNOTATIONS, DEPTHS, RECORD, WORD, WORDS};
+use crate::pads::Pads;
 use crate::question::{INT, SEQUENCE, STREAM, STRUCT, VAR_INT};
 use crate::walking::Walk;
 use oracle::asking::{Limits, Line};
@@ -140,6 +141,18 @@ mistakes! {
     PadsTwice "counts the ID of each pad twice"
     PadsAlone "counts the pads alone"
     IdsBeforeStart "counts IDs before the part's start"
+    // Bounded steps.
+    OnePadMore "passes one pad more than the bound"
+    BoundIgnored "passes all pads whatever the bound is"
+    MoreAtEnd "says kind 4 at the part's end"
+    MoreAtBadId "says kind 4 where the next field ID can't be read"
+    MoreAfterId "puts the position of kind 4 after the next field ID"
+    MoreCountsNext "counts the pad that comes next, too"
+    MoreReadsNext "reads the length of the pad behind the bound"
+    MoreLeftovers "leaves the further words of kind 4 as they were"
+    MoreMoves "moves past pads when a bounded step is refused"
+    NoneAsOne "takes a largest number of 0 as 1"
+    NoneBeforeOutside "says 67 where the part is outside too"
     // The limits.
     LimitOf255 "tests 255 bytes of annotations by whichever limit"
     LimitOf254 "takes 254 as a limit of annotations"
@@ -565,6 +578,52 @@ impl Wrong {
         put(out, words)
     }
 
+    /// A bounded step's answer changed.
+    #[allow(clippy::too_many_arguments)]
+    fn changed_bounded(
+        &self,
+        map: &[u8],
+        part: Part,
+        kind: u64,
+        most: usize,
+        out: &mut [u8],
+        old: &[u8],
+        returned: u64,
+    ) -> u64 {
+        let [answer, pads, position, ..] = Record::read(out).0;
+        let more = |pads: usize, position: usize| [4, pads as u64, position as u64, 0, 0, 0, 0, 0, 0];
+        let met = Pads::of(map, part, kind);
+        let is_full = met.ends.len() == most;
+        match (self.mistake, answer) {
+            (Mistake::MoreAtEnd, 0) if is_full => put(out, more(most, met.place())),
+            (Mistake::MoreAtBadId, 9) if is_full && kind == STRUCT && matches!(returned, 3 | 7 | 20) => {
+                put(out, more(most, met.place()))
+            }
+            (Mistake::MoreAfterId, 4) if kind == STRUCT => {
+                match var_uint(map, position as usize, part.end) {
+                    Some((_, behind)) => put(out, more(most, behind)),
+                    None => returned,
+                }
+            }
+            (Mistake::MoreCountsNext, 4) => put(out, more(pads as usize + 1, position as usize)),
+            (Mistake::MoreReadsNext, 4) => {
+                let mut next = [0; RECORD];
+                match Exports.step_bounded(map, part.at(position as usize), kind, 1, &mut next) {
+                    number @ (3 | 6 | 20) if is_full => {
+                        out[..RECORD].copy_from_slice(&next);
+                        number
+                    }
+                    _ => returned,
+                }
+            }
+            (Mistake::MoreLeftovers, 4) => {
+                out[3 * WORD..RECORD].copy_from_slice(&old[3 * WORD..]);
+                returned
+            }
+            _ => returned,
+        }
+    }
+
     /// The items of the walk by another reader or with other limits.
     fn counted(&self, reader: &impl Reader, map: &[u8], most: u64, limits: Limits) -> u64 {
         let mut walk = Walk::new(Part {
@@ -852,7 +911,37 @@ impl Reader for Wrong {
         }
     }
 
+    fn step_bounded(&self, map: &[u8], part: Part, kind: u64, most: usize, out: &mut [u8]) -> u64 {
+        let kind = match (self.mistake, kind) {
+            (Mistake::KindThree, 3) => STRUCT,
+            _ => kind,
+        };
+        self.with_limit(map, part, out, |part, out| {
+            let is_limit = ANNOTATIONS.contains(&part.limits.annotations);
+            let is_fine = is_limit && part.is_inside(map) && kind <= STRUCT;
+            match (self.mistake, most) {
+                (Mistake::NoneBeforeOutside, 0) if is_limit && out.len() >= RECORD => {
+                    refuse(out, 67, 0)
+                }
+                (Mistake::NoneAsOne, 0) => Exports.step_bounded(map, part, kind, 1, out),
+                (Mistake::OnePadMore, 1..) => {
+                    Exports.step_bounded(map, part, kind, most.saturating_add(1), out)
+                }
+                (Mistake::BoundIgnored, 1..) => Exports.step(map, part, kind, out),
+                (_, 1..) if is_fine && out.len() >= RECORD => {
+                    let old = out[..RECORD].to_vec();
+                    let returned = Exports.step_bounded(map, part, kind, most, out);
+                    self.changed_bounded(map, part, kind, most, out, &old, returned)
+                }
+                _ => Exports.step_bounded(map, part, kind, most, out),
+            }
+        })
+    }
+
     fn cursor(&self, map: &[u8], part: Part, kind: u64, record: Record) -> usize {
+        if self.is(Mistake::MoreMoves) && record.kind() == 9 {
+            return Pads::of(map, part, kind.min(STRUCT)).place();
+        }
         if self.is(Mistake::PadsPassed) && record.kind() == 9 && kind != STRUCT {
             return self.past_pads(map, part);
         }
