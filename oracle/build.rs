@@ -79,7 +79,7 @@ fn main() {
 }
 
 /// The functions that the comparison calls.
-const EXPORTS: [&str; 14] = [
+const EXPORTS: [&str; 15] = [
     "ion_map_step",
     "ion_map_steps",
     "ion_map_annotation",
@@ -94,6 +94,7 @@ const EXPORTS: [&str; 14] = [
     "ion_map_symbols",
     "ion_map_symbol_text",
     "ion_map_step_bounded",
+    "ion_map_check",
 ];
 
 /// Links a program with our reader, and the fuzzer's with libFuzzer.

@@ -260,6 +260,11 @@ impl<'a> Asked<'a> {
         self.within(at, self.end)
     }
 
+    /// A part of the part, asked about by itself.
+    pub fn sub(&self, at: usize, end: usize) -> Self {
+        Asked { at, end, ..*self }
+    }
+
     /// A part of the part.
     pub fn within(&self, start: usize, end: usize) -> BinaryBuffer<'a> {
         BinaryBuffer::new_with_offset(self.context, self.bytes(start, end), start)

@@ -5,6 +5,7 @@
 
 use crate::asking::{self, Annotation, Annotations, Asked, Decimal, Item, Line, Number};
 use crate::asking::{Refusal, Rules, Scalar, Spans};
+use crate::checks::{self, Stop};
 use crate::lazy::binary::raw::type_descriptor::TypeDescriptor;
 use crate::lazy::expanded::EncodingContext;
 use crate::requests::{self, Steps};
@@ -126,7 +127,7 @@ fn answer_one(
         count += 1;
     }
     let wanted = match kind {
-        "descriptor" => 0,
+        "descriptor" | "check" => 0,
         "varuint" | "varint" | "decimal" | "instant" | "length" | "pad" | "wrapper" | "walk" => 2,
         "int" | "stream" | "sequence" | "struct" | "annotations" | "scalar" | "stepin" => 3,
         _ => return None,
@@ -140,7 +141,10 @@ fn answer_one(
         descriptor(*byte, out);
         return Some(());
     }
-    let [at, end, third] = numbers;
+    let [at, end, third] = match kind {
+        "check" => [0, bytes.len(), 0],
+        _ => numbers,
+    };
     match Asked::new(context, bytes, at, end) {
         Ok(asked) => answer_part(kind, &asked, third, out),
         Err(refusal) => refuse(out, refusal),
@@ -167,6 +171,7 @@ fn answer_part(kind: &str, asked: &Asked<'_>, third: usize, out: &mut Vec<u8>) {
         "sequence" => Ok(steps(asked, Rules::Sequence, third, out)),
         "struct" => Ok(steps(asked, Rules::Struct, third, out)),
         "annotations" => Ok(annotations(asked, third, out)),
+        "check" => Ok(say_check(asked, out)),
         "walk" => Ok(requests::walk(asked, &mut |line| say_line(line, out))),
         "scalar" => asking::scalar(asked, third).map(|reading| say_scalar(reading.scalar, out)),
         _ => asking::step_in(asked, third).map(|opened| {
@@ -425,5 +430,19 @@ fn say_line(line: Line, out: &mut Vec<u8>) {
         }
         Line::End(position) => say(out, format_args!("end {position}")),
         Line::Refused(refusal) => refuse(out, refusal),
+    }
+}
+
+/// Markers and each type of an accepted map, or the first refusal.
+fn say_check(asked: &Asked<'_>, out: &mut Vec<u8>) {
+    match checks::check(asked, |_| {}) {
+        Ok(counts) => {
+            say(out, format_args!("{}", counts.markers));
+            for count in counts.types {
+                say(out, format_args!(" {count}"));
+            }
+        }
+        Err(Stop::Refused(refusal)) => refuse(out, refusal),
+        Err(Stop::OutOfRange(_) | Stop::Open(_)) => say(out, format_args!("unsupported")),
     }
 }

@@ -39,6 +39,7 @@ pub mod v1_0 {
 }
 
 pub mod asking;
+pub mod checks;
 pub mod harness;
 pub mod refusals;
 pub mod requests;

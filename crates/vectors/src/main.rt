@@ -1,5 +1,6 @@
 // Answers the questions of the files that its arguments name on the layers below the exports, and compares each answer with
 // the one written there: for each file it writes how many agree and how many differ, and each one that differs.
+mod check_questions;
 mod decimal_questions;
 mod frame_questions;
 mod number_questions;
@@ -67,6 +68,9 @@ fn answer(line: &[u8]) -> Line {
             text::number_or(line, 4, ANNOTATION_LIMIT),
             text::number_or(line, 5, DEPTH_LIMIT),
         );
+    }
+    if check::same(asked, b"check") {
+        return check_questions::whole(s, ANNOTATION_LIMIT, DEPTH_LIMIT);
     }
     Line::new().word(b"no such question")
 }

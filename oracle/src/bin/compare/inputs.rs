@@ -150,6 +150,7 @@ fn ask_batches<R: Reader>(session: &mut Session<R>, map: &[u8], part: Part) {
 fn ask_walk<R: Reader>(session: &mut Session<R>, map: &[u8], part: Part) {
     session.ask(map, Ask::Walk, part);
     session.ask(map, Ask::Walked(u64::MAX), part);
+    session.ask(map, Ask::Check, part);
 }
 
 /// Every question at every place, up to every end, and with some damage.
@@ -596,7 +597,7 @@ fn parts<R: Reader>(session: &mut Session<R>, random: &mut Random, count: usize)
         }
         let part = any_part(random, map.bytes.len());
         let ask = any_ask(random);
-        if !matches!(ask, Ask::Walk | Ask::Walked(_)) || part.is_inside(&map.bytes) {
+        if !matches!(ask, Ask::Walk | Ask::Walked(_) | Ask::Check) || part.is_inside(&map.bytes) {
             session.ask(&map.bytes, ask, part);
         }
     }
@@ -634,6 +635,7 @@ fn any_ask(random: &mut Random) -> Ask {
         7 | 8 => Ask::StepIn,
         9 | 10 => Ask::Scalar,
         11 | 12 => Ask::Number(rules, int_size(random)),
+        13 if random.one_in(2) => Ask::Check,
         13 => Ask::Walk,
         14 => Ask::Walked(random.below(8) as u64),
         15 => Ask::Decimal,
@@ -720,7 +722,7 @@ fn by_limits<R: Reader>(session: &mut Session<R>, random: &mut Random, number: u
     // Outside, or into too short a buffer: 51 is before 68, which is before 50.
     let part = any_part(random, bytes.len());
     let ask = any_ask(random);
-    if !matches!(ask, Ask::Walk | Ask::Walked(_)) {
+    if !matches!(ask, Ask::Walk | Ask::Walked(_) | Ask::Check) {
         session.ask(&bytes, ask, Part { limits, ..part });
     }
 }

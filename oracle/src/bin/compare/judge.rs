@@ -1,11 +1,12 @@
 //! Asks both readers a question and compares what they answer.
 
 use crate::expected::{is_over_limit, may_stand, Expected};
-use crate::ours::{Part, Reader, Record, RECORD};
+use crate::ours::{words_of, Part, Reader, Record, CHECK, CHECK_WORDS, RECORD};
 use crate::pads::Pads;
 use crate::question::{Ask, Entry, Question, INT, KINDS, STRUCT, VAR_UINT};
 use crate::walking::Walk;
 use oracle::asking::{self, Annotations, Asked, Item, Line, Refusal, Rules};
+use oracle::checks::{self, Stop};
 use oracle::lazy::expanded::EncodingContext;
 use oracle::requests::{self, Request, Steps, REQUESTS};
 use oracle::timestamps::{self, Stamp};
@@ -201,6 +202,8 @@ impl<'a, R: Reader> Bench<'a, R> {
         let part = question.part;
         let fine = match question.ask {
             Ask::Short(entry, room) => self.short(entry, room, part),
+            Ask::Check if part.is_inside(self.map) => return self.whole(part),
+            Ask::Check => true,
             // The part of a walk is cut out by the harness, so it is inside, and so are the limits.
             Ask::Walk if question.is_out_of_range() => true,
             Ask::Walked(most) if question.is_out_of_range() => self.count_is(part, most, 0..=0),
@@ -653,6 +656,88 @@ impl<'a, R: Reader> Bench<'a, R> {
         fine
     }
 
+    // ===== Whole maps =====
+
+    /// The part, cut out, as a map: accepted with the Rust's counts and the pads of each of its steps, or its first refusal.
+    fn whole(&mut self, part: Part) -> Verdict {
+        let map = &self.map[part.position..part.end];
+        let room = CHECK + (part.position & 1) * GUARD;
+        let returned = self.reader.check(map, part.limits, self.desk.lend(room));
+        let ours = words_of(&self.desk.buffer[..CHECK]);
+        let (wanted, is_open) = self.checked(map, part);
+        self.moved = self.moved.or(match wanted {
+            Err(Stop::Refused(refusal)) => refusal.moved,
+            _ => None,
+        });
+        let is_fine = match wanted {
+            _ if self.moved == Some(Request::HigherLimit) => true,
+            Ok(words) => ours == words,
+            Err(stop) => self.is_stopped(map, part, stop, ours),
+        };
+        let is_told = returned == if ours[0] == 9 { ours[1] } else { 0 };
+        let fine = is_fine && is_told && self.desk.is_untouched(CHECK, room);
+        self.desk.note(
+            fine,
+            || format!("{wanted:?}"),
+            || format!("{ours:?} returned {returned}"),
+        );
+        match self.verdict_of(fine) {
+            Verdict::Agree if is_open => Verdict::Apart,
+            verdict => verdict,
+        }
+    }
+
+    /// The record wanted, or where the Rust stops; and whether that decides nothing further.
+    fn checked(&mut self, map: &[u8], part: Part) -> (Result<[u64; CHECK_WORDS], Stop>, bool) {
+        let limits = Question::new(Ask::Check, part);
+        if limits.is_out_of_range() {
+            let refusal = Refusal::own(68, Some(0));
+            return (Err(Stop::Refused(refusal)), false);
+        }
+        let asked = Asked::new(self.context, map, 0, map.len());
+        let asked = asked.expect("the whole map").by(part.limits);
+        let mut pads = 0;
+        let found = checks::check(&asked, |step| {
+            let from = Part::new(step.at, step.end, step.at);
+            pads += Pads::of(map, from, step.rules as u64).ends.len() as u64;
+        });
+        match found {
+            Ok(counts) => {
+                let mut words = [12; CHECK_WORDS];
+                words[1] = counts.markers;
+                words[2] = pads;
+                words[3..].copy_from_slice(&counts.types);
+                (Ok(words), false)
+            }
+            Err(stop) => (Err(stop), matches!(stop, Stop::Open(_))),
+        }
+    }
+
+    /// Whether our record is the refusal where the Rust stops. Where its answer is open, ours may go on.
+    fn is_stopped(&mut self, map: &[u8], part: Part, stop: Stop, ours: [u64; CHECK_WORDS]) -> bool {
+        let [kind, number, position, zeros @ ..] = ours;
+        let is_refusal = kind == 9 && zeros == [0; CHECK_WORDS - 3];
+        let at = position as usize;
+        match stop {
+            Stop::Refused(refusal) => {
+                self.refusals.count(refusal.number as usize, refusal.own);
+                let whole = Part {
+                    limits: part.limits,
+                    ..Part::whole(map)
+                };
+                let is_there = match refusal.position {
+                    Some(position) => position == at,
+                    None => may_stand(number, map, whole, at),
+                };
+                is_refusal && number == refusal.number as u64 && is_there
+            }
+            Stop::OutOfRange(descriptor) => {
+                is_refusal && matches!(number, 62 | 63) && at == descriptor
+            }
+            Stop::Open(descriptor) => kind == 12 || is_refusal && at >= descriptor,
+        }
+    }
+
     /// The pads before what the Rust hands out or refuses, and one more unless it says end.
     fn ids(&mut self, part: Part) -> bool {
         let pads = Pads::of(self.map, part, STRUCT);
@@ -690,7 +775,7 @@ impl<'a, R: Reader> Bench<'a, R> {
             Ask::Number(form, size) => (Entry::Number, form, size),
             Ask::Decimal => (Entry::Decimal, 0, 0),
             Ask::Bounded(rules, most) => (Entry::Bounded, rules, most),
-            Ask::Walk | Ask::Walked(_) | Ask::Ids | Ask::Short(..) => {
+            Ask::Walk | Ask::Walked(_) | Ask::Check | Ask::Ids | Ask::Short(..) => {
                 unreachable!("asked elsewhere")
             }
         };
@@ -734,6 +819,7 @@ impl<'a, R: Reader> Bench<'a, R> {
             Entry::Number => reader.number(map, part, kind, size, out),
             Entry::Decimal => reader.decimal(map, part, out),
             Entry::Bounded => reader.step_bounded(map, part, kind, size, out),
+            Entry::Check => reader.check(map, part.limits, out),
         }
     }
 }

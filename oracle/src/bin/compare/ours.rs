@@ -8,6 +8,10 @@ use std::ops::RangeInclusive;
 pub const WORD: usize = size_of::<u64>();
 pub const RECORD: usize = WORDS * WORD;
 
+/// The words of a check's record, and its bytes.
+pub const CHECK_WORDS: usize = 16;
+pub const CHECK: usize = CHECK_WORDS * WORD;
+
 mod exported {
     extern "C" {
         pub fn ion_map_step(
@@ -110,6 +114,14 @@ mod exported {
             out: *mut u8,
             room: usize,
         ) -> u64;
+        pub fn ion_map_check(
+            map: *const u8,
+            length: usize,
+            annotations: usize,
+            depth: usize,
+            out: *mut u8,
+            room: usize,
+        ) -> u64;
         pub fn ion_map_ids(
             map: *const u8,
             length: usize,
@@ -175,13 +187,18 @@ impl Part {
 #[derive(Clone, Copy, Debug, PartialEq)]
 pub struct Record(pub [u64; WORDS]);
 
+/// The first words of these bytes.
+pub fn words_of<const N: usize>(bytes: &[u8]) -> [u64; N] {
+    let mut words = [0; N];
+    for (word, bytes) in words.iter_mut().zip(bytes.chunks_exact(WORD)) {
+        *word = u64::from_le_bytes(bytes.try_into().expect("eight bytes"));
+    }
+    words
+}
+
 impl Record {
     pub fn read(bytes: &[u8]) -> Self {
-        let mut words = [0; WORDS];
-        for (word, bytes) in words.iter_mut().zip(bytes.chunks_exact(WORD)) {
-            *word = u64::from_le_bytes(bytes.try_into().expect("eight bytes"));
-        }
-        Record(words)
+        Record(words_of(bytes))
     }
 
     pub fn write(self, bytes: &mut [u8]) {
@@ -213,6 +230,7 @@ pub trait Reader {
     /// The body is the part from its position on.
     fn decimal(&self, map: &[u8], part: Part, out: &mut [u8]) -> u64;
     fn walked(&self, map: &[u8], most: u64, limits: Limits) -> u64;
+    fn check(&self, map: &[u8], limits: Limits, out: &mut [u8]) -> u64;
     fn ids(&self, map: &[u8], part: Part) -> u64;
     fn step_bounded(&self, map: &[u8], part: Part, kind: u64, most: usize, out: &mut [u8]) -> u64;
 
@@ -354,6 +372,12 @@ impl Reader for Exports {
     fn walked(&self, map: &[u8], most: u64, limits: Limits) -> u64 {
         let Limits { annotations, depth } = limits;
         unsafe { exported::ion_map_walked(map.as_ptr(), map.len(), most, annotations, depth) }
+    }
+
+    fn check(&self, map: &[u8], limits: Limits, out: &mut [u8]) -> u64 {
+        let Limits { annotations, depth } = limits;
+        let (at, room) = (out.as_mut_ptr(), out.len());
+        unsafe { exported::ion_map_check(map.as_ptr(), map.len(), annotations, depth, at, room) }
     }
 
     fn ids(&self, map: &[u8], part: Part) -> u64 {

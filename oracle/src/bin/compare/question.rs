@@ -27,9 +27,10 @@ pub enum Entry {
     Number,
     Decimal,
     Bounded,
+    Check,
 }
 
-pub const ENTRIES: [Entry; 9] = [
+pub const ENTRIES: [Entry; 10] = [
     Entry::Step,
     Entry::Steps,
     Entry::Annotation,
@@ -39,6 +40,7 @@ pub const ENTRIES: [Entry; 9] = [
     Entry::Number,
     Entry::Decimal,
     Entry::Bounded,
+    Entry::Check,
 ];
 
 #[derive(Clone, Copy, Debug, PartialEq)]
@@ -60,6 +62,8 @@ pub enum Ask {
     Walk,
     /// How many items the walk of the part hands out in so many calls.
     Walked(u64),
+    /// Whether the part is accepted as a map, and what it holds.
+    Check,
     /// How many field IDs the struct step begins to read.
     Ids,
     /// Steps by these rules past so many pads at most, until an end or a refusal, and once more.
@@ -75,7 +79,7 @@ pub struct Question {
 }
 
 /// What is counted apart, in the order of the report.
-pub const KINDS: [&str; 20] = [
+pub const KINDS: [&str; 21] = [
     "runs of stream steps",
     "runs of sequence steps",
     "runs of struct steps",
@@ -96,6 +100,7 @@ pub const KINDS: [&str; 20] = [
     "timestamps, and scalars as such",
     "runs of bounded steps",
     "no pads allowed (67)",
+    "whole maps, checked and counted",
 ];
 
 impl Question {
@@ -122,6 +127,7 @@ impl Question {
             Ask::Ids => 16,
             Ask::Bounded(_, 0) => 19,
             Ask::Bounded(..) => 18,
+            Ask::Check => 20,
         }
     }
 
@@ -138,6 +144,7 @@ impl Question {
             Ask::Decimal | Ask::Short(Entry::Decimal, _) => &["ion_map_decimal"],
             Ask::Walk => &["ion_map_step", "ion_map_step_in"],
             Ask::Walked(_) => &["ion_map_walked"],
+            Ask::Check | Ask::Short(Entry::Check, _) => &["ion_map_check"],
             Ask::Ids => &["ion_map_ids"],
             Ask::Bounded(..) | Ask::Short(Entry::Bounded, _) => &["ion_map_step_bounded"],
             Ask::Short(Entry::Steps, _) => &["ion_map_steps"],
@@ -158,7 +165,7 @@ impl Question {
         );
         match self.ask {
             Ask::Annotations | Ask::Number(..) | Ask::Decimal => false,
-            Ask::Walk | Ask::Walked(_) => is_many || is_deep,
+            Ask::Walk | Ask::Walked(_) | Ask::Check => is_many || is_deep,
             _ => is_many,
         }
     }
@@ -216,6 +223,7 @@ impl fmt::Display for Ask {
             Ask::Decimal => write!(f, "decimal"),
             Ask::Walk => write!(f, "walk"),
             Ask::Walked(most) => write!(f, "items of {most} calls of the walk"),
+            Ask::Check => write!(f, "check"),
             Ask::Ids => write!(f, "field IDs begun"),
             Ask::Bounded(rules, most) => write!(f, "steps of kind {rules} past {most} pads"),
             Ask::Short(entry, room) => write!(f, "{entry:?} into {room} bytes"),

@@ -2,6 +2,7 @@
 //! changed, as a reader that makes this mistake would answer.
 
 use crate::expected::{inside_wrapper, var_uint};
+use crate::ours::{words_of, CHECK, CHECK_WORDS};
 use crate::ours::{Exports, Part, Reader, Record, ANNOTATIONS, DEPTHS, RECORD, WORD, WORDS};
 use crate::pads::Pads;
 use crate::question::{INT, SEQUENCE, STREAM, STRUCT, VAR_INT};
@@ -153,6 +154,15 @@ mistakes! {
     MoreMoves "moves past pads when a bounded step is refused"
     NoneAsOne "takes a largest number of 0 as 1"
     NoneBeforeOutside "says 67 where the part is outside too"
+    // Whole maps.
+    CheckPadsAtEnd "doesn't count the pads before the end of a checked map"
+    CheckNulls "counts the nulls of a checked map under null"
+    CheckMarkers "counts the markers of a checked map among its pads"
+    CheckDepth "refuses the containers of a checked map a depth earlier"
+    CheckIds "doesn't read the annotation IDs of a checked map"
+    CheckBools "doesn't read the bools of a checked map"
+    CheckKept "leaves counts in the record of a refused check"
+    CheckPosition "puts the refusal of a check at the start of the map"
     // The limits.
     LimitOf255 "tests 255 bytes of annotations by whichever limit"
     LimitOf254 "takes 254 as a limit of annotations"
@@ -163,6 +173,46 @@ mistakes! {
     DepthOf0 "walks with a limit of depth 0"
     DepthOf65 "walks with a limit of depth 65"
     OneDeeperAt64 "walks one deeper by the highest limit"
+}
+
+/// What the walk hands out of a whole map.
+fn lines(map: &[u8], limits: Limits) -> Vec<Line> {
+    let mut walk = Walk::new(Part {
+        limits,
+        ..Part::whole(map)
+    });
+    let lines = std::iter::from_fn(|| match walk.next(&Exports, map) {
+        Line::End(_) | Line::Refused(_) => None,
+        line => Some(line),
+    });
+    lines.collect()
+}
+
+fn descriptors(map: &[u8], limits: Limits) -> impl Iterator<Item = u8> + '_ {
+    lines(map, limits).into_iter().filter_map(|line| match line {
+        Line::Value { descriptor, .. } => Some(map[descriptor]),
+        _ => None,
+    })
+}
+
+/// The map with annotations that can be read, but those of fields.
+fn plain_ids(map: &[u8], limits: Limits) -> Vec<u8> {
+    let mut plain = map.to_vec();
+    for line in lines(map, limits) {
+        let Line::Value {
+            start, descriptor, ..
+        } = line
+        else {
+            continue;
+        };
+        let is_wrapper = (0xE1..=0xEE).contains(&map[start]);
+        if let Some((ids, end)) = is_wrapper.then(|| inside_wrapper(map, start, descriptor)).flatten() {
+            if end == descriptor {
+                plain[ids..end].fill(0x84);
+            }
+        }
+    }
+    plain
 }
 
 pub struct Wrong {
@@ -890,6 +940,56 @@ impl Reader for Wrong {
             Mistake::EndCounted if count < most => count + 1,
             _ => count,
         }
+    }
+
+    fn check(&self, map: &[u8], limits: Limits, out: &mut [u8]) -> u64 {
+        let limits = match (self.mistake, limits.depth) {
+            (Mistake::CheckDepth, depth @ 2..=64) => Limits {
+                depth: depth - 1,
+                ..limits
+            },
+            _ => limits,
+        };
+        let returned = Exports.check(map, limits, out);
+        if returned == 51 || returned == 68 {
+            return returned;
+        }
+        let mut words: [u64; CHECK_WORDS] = words_of(out);
+        match (self.mistake, returned) {
+            (Mistake::CheckPadsAtEnd, 0) => {
+                let mut last = map.len();
+                while last > 0 && map[last - 1] == 0 {
+                    last -= 1;
+                }
+                let mut shorter = [0; CHECK];
+                if Exports.check(&map[..last], limits, &mut shorter) == 0 {
+                    words[2] = words_of::<CHECK_WORDS>(&shorter)[2];
+                }
+            }
+            (Mistake::CheckNulls, 0) => {
+                for null in descriptors(map, limits).filter(|byte| *byte > 0x1F && byte & 15 == 15) {
+                    let code = (null >> 4) as usize;
+                    words[if code < 3 { code + 3 } else { code + 2 }] -= 1;
+                    words[3] += 1;
+                }
+            }
+            (Mistake::CheckMarkers, 0) => {
+                (words[1], words[2]) = (0, words[1] + words[2]);
+            }
+            (Mistake::CheckIds, 3 | 20) => return Exports.check(&plain_ids(map, limits), limits, out),
+            (Mistake::CheckBools, 33) => {
+                let mut map = map.to_vec();
+                map[words[2] as usize] = 0x11;
+                return self.check(&map, limits, out);
+            }
+            (Mistake::CheckKept, 1..) => words[7] = 1,
+            (Mistake::CheckPosition, 1..) => words[2] = 0,
+            _ => {}
+        }
+        for (bytes, word) in out.chunks_exact_mut(WORD).zip(words) {
+            bytes.copy_from_slice(&word.to_le_bytes());
+        }
+        returned
     }
 
     fn ids(&self, map: &[u8], part: Part) -> u64 {

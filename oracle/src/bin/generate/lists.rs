@@ -409,3 +409,24 @@ pub fn walks(q: &mut Questions) {
     }
     q.fill(Kind::Walks, 500, 90);
 }
+
+pub fn checks(q: &mut Questions) {
+    let mut check = |bytes: &[u8]| q.ask("check", bytes, &[]);
+    // Nothing, each type, its null, pads before the end and inside, markers, an annotation that can't be read, and its order.
+    let maps = "- 0F 10 11 12 1F 20 2105 2F 3105 3F 30 3100 40 4400000000 4F 50 51C1 5101 5F 63C00FD0 6101 6F 7101 70 7F 80 8161 8180 8F \
+        90 91FF 9F A0 A1FF AF B0 BF C0 CF D0 DF D28420 D18220 00 0000 B100 B3000000 D28400 D684000E800F00 E00100EA E00100EAE00100EA \
+        E00100EA20E00101EA E3818420 E3810120 E3810112 E481842112 E38101B0 EE8381000F B4E3810112 B212F0 B2F012 BB12";
+    for bytes in words(maps) {
+        check(&bytes);
+    }
+    for depth in [0, 1, 2, 30, 31, 32, 33, 34] {
+        let map = q.random.deep(depth);
+        q.ask("check", &map.bytes, &[]);
+    }
+    for bad in bad_items() {
+        q.ask("check", &bad, &[]);
+        let list = joined(&[&[0xBE, 0x80 | (bad.len() + 1) as u8, 0x20], &bad]);
+        q.ask("check", &joined(&[&list, &[0x20]]), &[]);
+    }
+    q.fill(Kind::Checks, 600, 90);
+}

@@ -1,7 +1,7 @@
 //! Makes questions. The same arguments always make the same questions.
 //!
 //! `generate SEED COUNT [KIND..]`: COUNT questions of the kinds named, or of all of them: numbers,
-//! frames, steps, scalars, decimals, timestamps, walks, and short (every short string in order).
+//! frames, steps, scalars, decimals, timestamps, walks, checks, and short (every short string in order).
 //! `generate list NAME`: the questions of the stored list of that name: edges by hand, then some
 //! made with a fixed seed.
 
@@ -24,6 +24,7 @@ enum Kind {
     Decimals,
     Timestamps,
     Walks,
+    Checks,
     Short,
 }
 
@@ -35,6 +36,7 @@ const KINDS: &[(&str, Kind)] = &[
     ("decimals", Kind::Decimals),
     ("timestamps", Kind::Timestamps),
     ("walks", Kind::Walks),
+    ("checks", Kind::Checks),
     ("short", Kind::Short),
 ];
 
@@ -299,6 +301,17 @@ impl Questions {
         self.ask("walk", &map.bytes, &[at, end]);
     }
 
+    fn checks(&mut self) {
+        let mut map = match self.random.below(60) {
+            0 => self.rare(),
+            _ => self.map(),
+        };
+        if self.random.one_in(4) {
+            self.random.damage(&mut map.bytes);
+        }
+        self.ask("check", &map.bytes, &[]);
+    }
+
     /// The next question of the enumeration of short strings: every string of 0 to 2 bytes, then
     /// those of 3 interesting ones, each asked as a stream, a sequence, a struct and a walk.
     fn short(&mut self) {
@@ -338,6 +351,7 @@ impl Questions {
             Kind::Decimals => self.decimals(),
             Kind::Timestamps => self.timestamps(),
             Kind::Walks => self.walks(),
+            Kind::Checks => self.checks(),
             Kind::Short => self.short(),
         }
     }
@@ -371,6 +385,7 @@ fn main() {
                 "decimals" => lists::decimals(&mut q),
                 "timestamps" => lists::timestamps(&mut q),
                 "walks" => lists::walks(&mut q),
+                "checks" => lists::checks(&mut q),
                 _ => usage(),
             }
             let mut seen = HashSet::new();
