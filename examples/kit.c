@@ -1,6 +1,6 @@
 /* Asks every function of ion_map.h about a small map, and the step about one that isn't Ion 1.0, and checks the answers.
 
-     cc -std=c99 -O2 -I include examples/kit.c libmaps.a -o kit && ./kit
+     cc -std=c99 -O2 -I include examples/kit.c target/libion_map.a -o kit && ./kit
 
    Returns 0 where all are as they should be; otherwise it says what differs and returns 1. */
 
@@ -343,6 +343,82 @@ static void check_symbols(void)
     check_words("by no list", record, none);
 }
 
+/* A pointer whose length is 0 may be null: an empty map, no record, no system text. */
+static void check_null(void)
+{
+    static const words end = {ION_MAP_KIND_END, 0, 0, 0, 0, 0, 0, 0, 0};
+    static const words zero = {ION_MAP_KIND_DECIMAL, 0, 0, 0, 0, 0, 0, 0, 0};
+    static const words empty = {ION_MAP_KIND_NUMBER, 0, 0, 0, 0, 0, 0, 0, 0};
+    static const words no_list = {ION_MAP_KIND_SYMBOLS, 0, 0, 0, 0, 0, 0, 0, 0};
+    static const words none = {ION_MAP_KIND_TEXT, ION_MAP_TEXT_UNKNOWN, 0, 0, 0, 0, 0, 10, 0};
+    static const uint8_t system[] = ION_MAP_SYSTEM_TEXT;
+    enum { NINE = ION_MAP_SYSTEM_TEXT_SIZE, SIZE = ION_MAP_RECORD_SIZE };
+    uint8_t out[ION_MAP_CHECK_SIZE];
+    uint64_t count = 0;
+    size_t i;
+
+    check("null, step", ion_map_step(NULL, 0, 0, 0, 0, ION_MAP_PART_STREAM, LIMIT, record, SIZE), 0);
+    check_words("null, step", record, end);
+    check("null, struct step", ion_map_step(NULL, 0, 0, 0, 0, ION_MAP_PART_STRUCT, LIMIT, record, SIZE), 0);
+    check_words("null, struct step", record, end);
+    check("null, outside", ion_map_step(NULL, 0, 0, 1, 0, ION_MAP_PART_STREAM, LIMIT, record, SIZE), 50);
+    check("null, bounded", ion_map_step_bounded(NULL, 0, 0, 0, 0, ION_MAP_PART_SEQUENCE, 1, LIMIT, record, SIZE), 0);
+    check_words("null, bounded", record, end);
+    check("null, steps", ion_map_steps(NULL, 0, 0, 0, 0, ION_MAP_PART_STREAM, LIMIT, record, SIZE, &count), 0);
+    check("null, steps' count", count, 1);
+    check_words("null, steps", record, end);
+    check("null, annotation", ion_map_annotation(NULL, 0, 0, 0, 0, record, SIZE), 0);
+    check_words("null, annotation", record, end);
+    check("null, stepping in", ion_map_step_in(NULL, 0, 0, 0, 0, LIMIT, record, SIZE), 1);
+    check("null, scalar", ion_map_scalar(NULL, 0, 0, 0, 0, LIMIT, record, SIZE), 1);
+    check("null, timestamp", ion_map_timestamp(NULL, 0, 0, 0, 0, LIMIT, record, SIZE), 1);
+    check("null, VarUInt", ion_map_number(NULL, 0, 0, 0, 0, ION_MAP_FORM_VAR_UINT, 0, record, SIZE), 3);
+    check("null, VarInt", ion_map_number(NULL, 0, 0, 0, 0, ION_MAP_FORM_VAR_INT, 0, record, SIZE), 4);
+    check("null, Int", ion_map_number(NULL, 0, 0, 0, 0, ION_MAP_FORM_INT, 0, record, SIZE), 0);
+    check_words("null, Int", record, empty);
+    check("null, decimal", ion_map_decimal(NULL, 0, 0, 0, record, SIZE), 0);
+    check_words("null, decimal", record, zero);
+    check("null, IDs", ion_map_ids(NULL, 0, 0, 0, 0, LIMIT), 0);
+    check("null, walked", ion_map_walked(NULL, 0, 9, LIMIT, DEPTH), 0);
+    check("null, check", ion_map_check(NULL, 0, LIMIT, DEPTH, out, sizeof out), 0);
+    for (i = 0; i < ION_MAP_CHECK_WORDS; i++)
+        check("a count of none", ion_map_word(out, i), i == 0 ? ION_MAP_KIND_CHECKED : 0);
+    check("null, symbols", ion_map_symbols(NULL, 0, system, NINE, 0, 0, 0, LIMIT, record, SIZE), 0);
+    check_words("null, symbols", record, no_list);
+    check("null, text", ion_map_text(NULL, 0, system, NINE, 0, 0, 0, 10, LIMIT, record, SIZE), 0);
+    check_words("null, text", record, none);
+    check("null, symbol's text", ion_map_symbol_text(NULL, 0, system, NINE, 0, 0, 10, LIMIT, record, SIZE), 0);
+    check_words("null, symbol's text", record, none);
+
+    check("no system text", ion_map_text(map, LENGTH, NULL, 0, 0, LENGTH, 0, 1, LIMIT, record, SIZE), 66);
+    check("no system text, symbols", ion_map_symbols(map, LENGTH, NULL, 0, 0, LENGTH, 0, LIMIT, record, SIZE), 66);
+    check("no system text, by list", ion_map_symbol_text(map, LENGTH, NULL, 0, 0, 0, 1, LIMIT, record, SIZE), 66);
+
+    check("no record, step", ion_map_step(map, LENGTH, 0, LENGTH, 0, 0, LIMIT, NULL, 0), 51);
+    check("no record, bounded", ion_map_step_bounded(map, LENGTH, 0, LENGTH, 0, 0, 1, LIMIT, NULL, 0), 51);
+    check("no record, steps", ion_map_steps(map, LENGTH, 0, LENGTH, 0, 0, LIMIT, NULL, 0, &count), 51);
+    check("no record, count", count, 0);
+    check("no record, annotation", ion_map_annotation(map, LENGTH, 6, 7, 6, NULL, 0), 51);
+    check("no record, stepping in", ion_map_step_in(map, LENGTH, 0, LENGTH, 4, LIMIT, NULL, 0), 51);
+    check("no record, scalar", ion_map_scalar(map, LENGTH, 0, LENGTH, 13, LIMIT, NULL, 0), 51);
+    check("no record, timestamp", ion_map_timestamp(map, LENGTH, 0, LENGTH, 13, LIMIT, NULL, 0), 51);
+    check("no record, number", ion_map_number(map, LENGTH, 0, LENGTH, 6, 0, 0, NULL, 0), 51);
+    check("no record, decimal", ion_map_decimal(map, LENGTH, 17, 19, NULL, 0), 51);
+    check("no record, check", ion_map_check(map, LENGTH, LIMIT, DEPTH, NULL, 0), 51);
+    check("no record, text", ion_map_text(map, LENGTH, system, NINE, 0, LENGTH, 0, 1, LIMIT, NULL, 0), 51);
+    check("no record, symbols", ion_map_symbols(map, LENGTH, system, NINE, 0, LENGTH, 0, LIMIT, NULL, 0), 51);
+    check("no record, by list", ion_map_symbol_text(map, LENGTH, system, NINE, 0, 0, 1, LIMIT, NULL, 0), 51);
+    check("nothing at all", ion_map_step(NULL, 0, 0, 0, 0, 0, LIMIT, NULL, 0), 51);
+}
+
+static void check_texts(void)
+{
+    check("the text of 8", strcmp(ion_map_refusal_text(8), "a value that runs past the part") != 0, 0);
+    check("the text of 68", strcmp(ion_map_refusal_text(68), "a limit outside its range") != 0, 0);
+    check("the text of 0", strcmp(ion_map_refusal_text(0), "no refusal") != 0, 0);
+    check("the text of no number", strcmp(ion_map_refusal_text(UINT64_MAX), ion_map_refusal_text(10)) != 0, 0);
+}
+
 int main(void)
 {
     check_step();
@@ -357,6 +433,8 @@ int main(void)
     check_many();
     check_limits();
     check_symbols();
+    check_null();
+    check_texts();
     printf("%d checks, %d differ\n", checks, differing);
     return differing != 0;
 }

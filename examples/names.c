@@ -1,12 +1,13 @@
 /* Prints the names in a map: the texts of annotations, field IDs and symbols, where they stand.
 
-     cc -std=c99 -O2 -I include examples/names.c libmaps.a -o names
+     cc -std=c99 -O2 -I include examples/names.c target/libion_map.a -o names
      ./names MAP
-     ./names < MAP          (on Windows name the file: standard input isn't binary there)
+     ./names < MAP
 
    A line has a position, what the ID there is, the ID and its text in quotes, or `unknown`. The map is walked as
    walk.c does it; the symbol table that rules is looked up once for each item of the stream. A refusal ends it with
-   `refused`, a number and a position. */
+   `refused`, a number and a position. The status is that of walk.c: 0, 1 for a refusal, 2 where reading or writing
+   fails. */
 
 #include "ion_map.h"
 
@@ -29,11 +30,16 @@ struct list {
     size_t end;
 };
 
+static int print_refused(uint64_t number, uint64_t position)
+{
+    printf("refused %" PRIu64 " %" PRIu64 "\n", number, position);
+    fprintf(stderr, "names: the map is refused at %" PRIu64 ": %s\n", position, ion_map_refusal_text(number));
+    return 0;
+}
+
 static int refused(const uint8_t *record)
 {
-    printf("refused %" PRIu64 " %" PRIu64 "\n", ion_map_word(record, ION_MAP_REFUSED_NUMBER),
-           ion_map_word(record, ION_MAP_REFUSED_POSITION));
-    return 0;
+    return print_refused(ion_map_word(record, ION_MAP_REFUSED_NUMBER), ion_map_word(record, ION_MAP_REFUSED_POSITION));
 }
 
 static int print_name(const struct list *list, uint64_t position, const char *what, uint64_t id)
@@ -139,6 +145,7 @@ int main(int argc, char **argv)
 {
     FILE *input = stdin;
     struct list none = {0, 0};
+    int good;
 
     if (argc > 2) {
         fprintf(stderr, "usage: %s [MAP]\n", argv[0]);
@@ -153,13 +160,17 @@ int main(int argc, char **argv)
     }
     length = fread(map, 1, sizeof map, input);
     if (ferror(input)) {
-        perror("reading the map");
+        perror(argc == 2 ? argv[1] : "standard input");
         return 2;
     }
     if (length > MOST_INPUT) {
-        printf("refused %d %d\n", ION_MAP_REFUSAL_INPUT_TOO_LONG, MOST_INPUT);
+        good = print_refused(ION_MAP_REFUSAL_INPUT_TOO_LONG, MOST_INPUT);
     } else {
-        print_part(&none, 0, length, ION_MAP_PART_STREAM, 0);
+        good = print_part(&none, 0, length, ION_MAP_PART_STREAM, 0);
     }
-    return 0;
+    if (fflush(stdout) != 0 || ferror(stdout)) {
+        perror("standard output");
+        return 2;
+    }
+    return !good;
 }

@@ -1,16 +1,26 @@
 /* Walks a map and prints a line for each marker and value, as the program mapspans does.
 
-     cc -std=c99 -O2 -I include examples/walk.c libmaps.a -o walk
+     cc -std=c99 -O2 -I include examples/walk.c target/libion_map.a -o walk
      ./walk MAP
-     ./walk < MAP          (on Windows name the file: standard input isn't binary there)
+     ./walk < MAP
 
    A line has the depth, the type, and four positions: the item's start, its descriptor, its body's start and
-   its end. The last line is `end` and a position, or `refused`, a number and a position. */
+   its end. The last line is `end` and a position, or `refused`, a number and a position.
+
+   The status is 0 where the map was walked to its end, 1 where it was refused, which the standard error then says in
+   words, and 2 where it couldn't be read or what is printed couldn't be written. */
 
 #include "ion_map.h"
 
 #include <inttypes.h>
 #include <stdio.h>
+
+/* The program's status. */
+enum {
+    WALKED = 0,
+    REFUSED = 1,
+    FAILED = 2
+};
 
 enum {
     MOST_INPUT = 65536,
@@ -54,9 +64,12 @@ static void print_value(int depth, const uint8_t *record)
                ion_map_word(record, ION_MAP_VALUE_END));
 }
 
-static void print_refused(uint64_t number, uint64_t position)
+/* Returns the status of a map that was refused. */
+static int print_refused(uint64_t number, uint64_t position)
 {
     printf("refused %" PRIu64 " %" PRIu64 "\n", number, position);
+    fprintf(stderr, "walk: the map is refused at %" PRIu64 ": %s\n", position, ion_map_refusal_text(number));
+    return REFUSED;
 }
 
 static struct part body_of(const uint8_t *record)
@@ -69,7 +82,8 @@ static struct part body_of(const uint8_t *record)
     return body;
 }
 
-static void walk(size_t length)
+/* Returns the program's status. */
+static int walk(size_t length)
 {
     struct part parts[MOST_DEPTH + 1]; /* the stream, and the body entered at each depth below it */
     uint8_t record[ION_MAP_RECORD_SIZE];
@@ -86,14 +100,13 @@ static void walk(size_t length)
                                         ION_MAP_DEFAULT_ANNOTATIONS, record, sizeof record);
 
         if (refused != 0) {
-            print_refused(refused, ion_map_word(record, ION_MAP_REFUSED_POSITION));
-            return;
+            return print_refused(refused, ion_map_word(record, ION_MAP_REFUSED_POSITION));
         }
         switch (ion_map_word(record, ION_MAP_WORD_KIND)) {
         case ION_MAP_KIND_END:
             if (depth == 0) {
                 printf("end %" PRIu64 "\n", ion_map_word(record, ION_MAP_END_POSITION));
-                return;
+                return WALKED;
             }
             position = part->end; /* the container ends where its body does */
             depth--;
@@ -109,8 +122,7 @@ static void walk(size_t length)
                 break;
             }
             if (depth == MOST_DEPTH) {
-                print_refused(ION_MAP_REFUSAL_TOO_DEEP, ion_map_word(record, ION_MAP_VALUE_DESCRIPTOR));
-                return;
+                return print_refused(ION_MAP_REFUSAL_TOO_DEEP, ion_map_word(record, ION_MAP_VALUE_DESCRIPTOR));
             }
             depth++;
             parts[depth] = body_of(record);
@@ -124,27 +136,29 @@ int main(int argc, char **argv)
 {
     FILE *input = stdin;
     size_t length;
+    int status;
 
     if (argc > 2) {
         fprintf(stderr, "usage: %s [MAP]\n", argv[0]);
-        return 2;
+        return FAILED;
     }
     if (argc == 2) {
         input = fopen(argv[1], "rb");
         if (input == NULL) {
             perror(argv[1]);
-            return 2;
+            return FAILED;
         }
     }
     length = fread(map, 1, sizeof map, input);
     if (ferror(input)) {
-        perror("reading the map");
-        return 2;
+        perror(argc == 2 ? argv[1] : "standard input");
+        return FAILED;
     }
-    if (length > MOST_INPUT) {
-        print_refused(ION_MAP_REFUSAL_INPUT_TOO_LONG, MOST_INPUT);
-    } else {
-        walk(length);
+    status = length > MOST_INPUT ? print_refused(ION_MAP_REFUSAL_INPUT_TOO_LONG, MOST_INPUT) : walk(length);
+    /* What is printed lies in a buffer up to here: a full disk shows when it is written out. */
+    if (fflush(stdout) != 0 || ferror(stdout)) {
+        perror("standard output");
+        return FAILED;
     }
-    return 0;
+    return status;
 }

@@ -1,15 +1,15 @@
 /* Reads maps in the Ion 1.0 binary encoding: which bytes are which marker, value or field.
 
-   Link with libmaps.a. The library keeps nothing between calls and takes no memory from the heap, so calls
-   may run at the same time as long as no two write to one buffer.
+   Link with libion_map.a, which is for x86-64 Linux. The library keeps nothing between calls and takes no memory
+   from the heap, so calls may run at the same time as long as no two write to one buffer.
 
    A map is any bytes, good or bad. Positions are counted from the map's first byte, 0. A span a..b holds a
    and not b, so its length is b - a and the next thing begins at b.
 
    Every function takes any numbers and any bytes. It answers with a record or with a numbered refusal; it
    never reads outside the map and never writes outside the record. What it can't test are the pointers:
-   `map` must point to map_len bytes and `out` to out_len bytes, none is null, also where a length is 0, and
-   what is written overlaps nothing else.
+   `map` must point to map_len bytes and `out` to out_len bytes, and what is written overlaps nothing else. A
+   pointer whose length is 0 is not followed and may be null, as that of an empty std::vector is.
 
    The header is for C99 and C++, on machines whose size_t has 64 bits. */
 
@@ -18,6 +18,14 @@
 
 #include <stddef.h>
 #include <stdint.h>
+
+/* The version, as text and as a number that grows with it: 10000 times the first number, 100 times the second, and the
+   third. CHANGELOG.md says what a caller must change from one to the next. */
+#define ION_MAP_VERSION "0.2.0"
+#define ION_MAP_VERSION_NUMBER 200
+
+/* Where the next line is an error, size_t has not 64 bits, and positions would be cut: the library is not for this target. */
+typedef char ion_map_needs_a_size_t_of_64_bits[sizeof(size_t) == 8 ? 1 : -1];
 
 /* ======================================= Part 1: the step ======================================= */
 
@@ -151,16 +159,13 @@ enum {
     ION_MAP_REFUSAL_LIMIT_OUT_OF_RANGE = 68    /* a limit that isn't from its least to its most, after 51, before 50 - 0 */
 };
 
-/* Word i of a record, i being under ION_MAP_RECORD_WORDS. */
+/* Word i of a record, i being under ION_MAP_RECORD_WORDS. One expression, of which compilers make one load. */
 static inline uint64_t ion_map_word(const uint8_t *record, size_t i)
 {
-    uint64_t word = 0;
-    size_t byte;
+    const uint8_t *word = record + ION_MAP_WORD_SIZE * i;
 
-    for (byte = ION_MAP_WORD_SIZE; byte > 0; byte--) {
-        word = word << 8 | record[ION_MAP_WORD_SIZE * i + byte - 1];
-    }
-    return word;
+    return (uint64_t)word[0] | (uint64_t)word[1] << 8 | (uint64_t)word[2] << 16 | (uint64_t)word[3] << 24
+           | (uint64_t)word[4] << 32 | (uint64_t)word[5] << 40 | (uint64_t)word[6] << 48 | (uint64_t)word[7] << 56;
 }
 
 /* The type that a value's descriptor byte says. */
@@ -188,6 +193,57 @@ static inline int ion_map_is_container(uint64_t byte)
 static inline uint64_t ion_map_body_kind(uint64_t byte)
 {
     return ion_map_type(byte) == ION_MAP_TYPE_STRUCT ? ION_MAP_PART_STRUCT : ION_MAP_PART_SEQUENCE;
+}
+
+/* What the number of a refusal says, in a few words without a capital or a full stop. Never null. */
+static inline const char *ion_map_refusal_text(uint64_t number)
+{
+    switch (number) {
+    case 0: return "no refusal";
+    /* include/texts: the words of the one list, crates/numbers/src/refusal.rt */
+    case 1: return "nothing after annotations, or where an entry on a value is to begin";
+    case 2: return "a marker under 4 bytes";
+    case 3: return "a VarUInt without a last byte";
+    case 4: return "a VarInt without a last byte";
+    case 5: return "annotations that run past the part";
+    case 6: return "a pad that runs past the part";
+    case 7: return "a field ID with nothing after it";
+    case 8: return "a value that runs past the part";
+    case 9: return "an Int that runs past the part";
+    case 20: return "a number that ended past 9 bytes";
+    case 21: return "a marker without EA";
+    case 22: return "no value where one is to stand";
+    case 23: return "an annotations' length of 0";
+    case 24: return "annotations longer than their wrapper";
+    case 25: return "a wrapper with no room for a value";
+    case 26: return "annotations of more bytes than the limit";
+    case 27: return "a wrapper in a wrapper";
+    case 28: return "a pad in a wrapper";
+    case 29: return "a value whose length differs from what its wrapper says";
+    case 30: return "a float code outside 0, 4, 8, 15";
+    case 31: return "a non-null timestamp under 2 bytes";
+    case 32: return "an empty ordered struct";
+    case 33: return "a bool code 2 to 14";
+    case 34: return "a negative int of zero";
+    case 35: return "a symbol over 8 bytes";
+    case 36: return "text that is not UTF-8";
+    case 37: return "a container deeper than the walk goes";
+    case 60: return "a marker that isn't 1.0";
+    case 61: return "a timestamp's hour with no minute";
+    case 62: return "a timestamp's field, offset or fraction out of range";
+    case 63: return "a timestamp's coefficient whose magnitude has over 8 bytes";
+    case 64: return "a symbol table with imports";
+    case 65: return "a symbol table with a second list of symbols";
+    case 50: return "parts or positions outside the slice or out of order, a part kind above 2, or a walk state deeper than the walk's limit";
+    case 51: return "a record buffer that is too short";
+    case 52: return "stepping into what is not a container or is null";
+    case 54: return "more input than mapspans takes";
+    case 66: return "a lent system text that isn't the nine joined";
+    case 67: return "a largest number of pads of 0";
+    case 68: return "a limit outside its range";
+    /* end of include/texts */
+    default: return "a number that this header doesn't know";
+    }
 }
 
 #ifdef __cplusplus
