@@ -3,8 +3,8 @@
 use crate::answer::{kind, Answer};
 use crate::raw;
 use crate::refusal::Refusal;
-use std::iter::FusedIterator;
-use std::ops::Range;
+use core::iter::FusedIterator;
+use core::ops::Range;
 
 /// An annotation: a symbol's ID.
 #[derive(Clone, Debug, PartialEq, Eq, Hash)]

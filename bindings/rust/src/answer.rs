@@ -1,8 +1,8 @@
 //! What a function answered, taken apart: its words, or its refusal.
 
-use crate::raw::{self, Record, RECORD_SIZE, RECORD_WORDS};
+use crate::raw::{self, Record, RECORD_SIZE};
 use crate::refusal::Refusal;
-use std::ops::Range;
+use core::ops::Range;
 
 // The header is for machines whose size_t has 64 bits; on these a word is a position as it stands.
 #[cfg(not(target_pointer_width = "64"))]
@@ -27,30 +27,40 @@ pub(crate) mod kind {
     pub(crate) const SYMBOLS: u64 = 19;
 }
 
-/// The words of a record that is no refusal.
+/// A record that is no refusal, once it was asked for. Its words are read as they are needed.
 #[derive(Clone, Copy)]
-pub(crate) struct Answer([u64; RECORD_WORDS]);
+pub(crate) struct Answer(Record);
 
 impl Answer {
-    /// Calls a function of `raw` with a record and takes apart what it wrote.
+    /// Room for a record.
+    pub(crate) const EMPTY: Answer = Answer([0; RECORD_SIZE]);
+
+    /// Calls a function of `raw` with a new record.
     #[inline]
     pub(crate) fn of(call: impl FnOnce(&mut [u8]) -> u64) -> Result<Answer, Refusal> {
-        let mut record = [0; RECORD_SIZE];
-        match call(&mut record) {
-            0 => Answer::from_record(&record),
+        let mut answer = Answer::EMPTY;
+        answer.ask(call)?;
+        Ok(answer)
+    }
+
+    /// Calls a function of `raw` with this record, of which nothing needs to be cleared before.
+    #[inline]
+    pub(crate) fn ask(&mut self, call: impl FnOnce(&mut [u8]) -> u64) -> Result<(), Refusal> {
+        match call(&mut self.0) {
+            0 => Ok(()),
             number => Err(Refusal {
                 number,
-                position: Answer(raw::words(&record)).at::<2>(),
+                position: self.at::<2>(),
             }),
         }
     }
 
     #[inline]
     pub(crate) fn from_record(record: &Record) -> Result<Answer, Refusal> {
-        let answer = Answer(raw::words(record));
+        let answer = Answer(*record);
         match answer.kind() {
             kind::REFUSED => Err(Refusal {
-                number: answer.0[1],
+                number: answer.word::<1>(),
                 position: answer.at::<2>(),
             }),
             _ => Ok(answer),
@@ -59,18 +69,18 @@ impl Answer {
 
     #[inline]
     pub(crate) fn kind(&self) -> u64 {
-        self.0[0]
+        self.word::<0>()
     }
 
     #[inline]
     pub(crate) fn word<const I: usize>(&self) -> u64 {
-        self.0[I]
+        raw::word::<I>(&self.0)
     }
 
     /// A word that is a position or a length.
     #[inline]
     pub(crate) fn at<const I: usize>(&self) -> usize {
-        self.0[I] as usize
+        self.word::<I>() as usize
     }
 
     /// Two words that are a span.
@@ -82,7 +92,7 @@ impl Answer {
     /// A word that is a byte.
     #[inline]
     pub(crate) fn byte<const I: usize>(&self) -> Result<u8, Refusal> {
-        u8::try_from(self.0[I]).map_err(|_| Refusal::unknown_answer())
+        u8::try_from(self.word::<I>()).map_err(|_| Refusal::unknown_answer())
     }
 }
 

@@ -6,10 +6,11 @@ use crate::limits::Limits;
 use crate::part::Part;
 use crate::raw;
 use crate::refusal::Refusal;
-use std::iter::FusedIterator;
+use core::iter::FusedIterator;
 
 /// What a bounded step answers.
 #[derive(Clone, Debug, PartialEq, Eq, Hash)]
+#[non_exhaustive]
 pub enum Bounded {
     /// What [`step`](crate::step) answers: an item, or the end.
     Reached(Item),
@@ -82,7 +83,7 @@ pub(crate) fn step_bounded_by(
 /// for met in items_bounded(&map, Part::stream(&map), 1) {
 ///     match met? {
 ///         Bounded::Reached(_) => items += 1,
-///         Bounded::More { .. } => pauses += 1, // time for something else
+///         _ => pauses += 1, // time for something else
 ///     }
 /// }
 /// assert_eq!((items, pauses), (2, 2));

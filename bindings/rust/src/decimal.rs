@@ -4,8 +4,11 @@ use crate::answer::{bytes, kind, Answer};
 use crate::raw;
 use crate::refusal::Refusal;
 use crate::scalar::{big_endian, signed};
-use std::fmt;
-use std::ops::Range;
+#[cfg(feature = "alloc")]
+use alloc::{format, string::String, string::ToString, vec};
+#[cfg(feature = "alloc")]
+use core::fmt;
+use core::ops::Range;
 
 /// A decimal: its coefficient times ten to its exponent. Two are equal where they were written alike: `10d0` and `1d1`
 /// aren't.
@@ -44,7 +47,8 @@ impl Decimal<'_> {
     }
 }
 
-/// As Ion's text has it, by coefficient and exponent: `99d-1`, and `-0d0` for negative zero.
+/// As Ion's text has it, by coefficient and exponent: `99d-1`, and `-0d0` for negative zero. With the feature `alloc`.
+#[cfg(feature = "alloc")]
 impl fmt::Display for Decimal<'_> {
     fn fmt(&self, f: &mut fmt::Formatter<'_>) -> fmt::Result {
         let sign = if self.negative { "-" } else { "" };
@@ -53,6 +57,7 @@ impl fmt::Display for Decimal<'_> {
 }
 
 /// The decimal digits of a magnitude of any length.
+#[cfg(feature = "alloc")]
 fn digits(first: u8, rest: &[u8]) -> String {
     const GROUP: u64 = 1_000_000_000;
     // Groups of nine digits, the least significant first.

@@ -4,11 +4,14 @@ use crate::answer::{kind, Answer};
 use crate::part::{Part, PartKind};
 use crate::raw::Record;
 use crate::refusal::Refusal;
-use std::fmt;
-use std::ops::Range;
+use crate::scalar::{scalar, Scalar};
+use crate::timestamp::{timestamp, TimestampOr};
+use core::fmt;
+use core::ops::Range;
 
 /// A value's type: the high four bits of its descriptor byte.
 #[derive(Clone, Copy, Debug, PartialEq, Eq, Hash)]
+#[non_exhaustive]
 pub enum Type {
     /// The null without another type.
     Null,
@@ -50,6 +53,7 @@ impl Type {
     /// assert_eq!(Type::of_byte(0xB3), Some(Type::List));
     /// assert_eq!(Type::of_byte(0xE3), None);
     /// ```
+    #[inline]
     pub fn of_byte(byte: u8) -> Option<Type> {
         const TYPES: [Type; 14] = [
             Type::Null,
@@ -90,6 +94,7 @@ impl Type {
     }
 
     /// How the body of such a container is stepped through; nothing for the other types.
+    #[inline]
     pub fn body_kind(self) -> Option<PartKind> {
         match self {
             Type::List | Type::Sexp => Some(PartKind::Sequence),
@@ -136,16 +141,19 @@ pub struct Value {
 
 impl Value {
     /// The descriptor's position.
+    #[inline]
     pub fn descriptor(&self) -> usize {
         self.annotations.end
     }
 
     /// From its first byte to its end.
+    #[inline]
     pub fn span(&self) -> Range<usize> {
         self.start..self.body.end
     }
 
     /// Whether it is a null, of whichever type.
+    #[inline]
     pub fn is_null(&self) -> bool {
         self.byte & 0x0F == 0x0F
     }
@@ -163,6 +171,7 @@ impl Value {
     /// assert_eq!(null_list.value().and_then(|v| v.part()), None);
     /// # Ok::<(), ion_map::Refusal>(())
     /// ```
+    #[inline]
     pub fn part(&self) -> Option<Part> {
         if self.is_null() {
             return None;
@@ -170,10 +179,46 @@ impl Value {
         let kind = self.ion_type.body_kind()?;
         Some(Part::new(kind, self.body.clone()))
     }
+
+    /// What the value is, read from its map: what [`scalar`](crate::scalar) answers with the part that handed it out. It
+    /// borrows nothing but the map, so that values can be read where a walk or an iterator hands them out.
+    ///
+    /// ```
+    /// use ion_map::walk;
+    ///
+    /// let map = [0xB6, 0x21, 0x07, 0x82, 0x68, 0x69, 0x11]; // a list of 7, "hi" and true
+    /// let (mut number, mut text, mut flag) = (None, None, None);
+    /// for met in walk(&map) {
+    ///     let (_, item) = met?;
+    ///     if let Some(value) = item.value() {
+    ///         let read = value.read(&map)?;
+    ///         number = number.or(read.as_i64());
+    ///         text = text.or(read.as_str());
+    ///         flag = flag.or(read.as_bool());
+    ///     }
+    /// }
+    /// assert_eq!((number, text, flag), (Some(7), Some("hi"), Some(true)));
+    /// # Ok::<(), ion_map::Refusal>(())
+    /// ```
+    pub fn read<'a>(&self, map: &'a [u8]) -> Result<Scalar<'a>, Refusal> {
+        scalar(map, self.itself(), self.descriptor())
+    }
+
+    /// The same with a timestamp's fields: what [`timestamp`](crate::timestamp) answers.
+    pub fn read_timestamp<'a>(&self, map: &'a [u8]) -> Result<TimestampOr<'a>, Refusal> {
+        timestamp(map, self.itself(), self.descriptor())
+    }
+
+    /// From the descriptor to the value's end, as a part: at its descriptor, a value that a step handed out is the same in
+    /// it as in any part that it lies in.
+    fn itself(&self) -> Part {
+        Part::new(PartKind::Sequence, self.descriptor()..self.body.end)
+    }
 }
 
 /// What a step hands out.
 #[derive(Clone, Debug, PartialEq, Eq, Hash)]
+#[non_exhaustive]
 pub enum Item {
     /// Nothing is left in the part. Only a single step hands it out; the iterators stop instead.
     End {
@@ -195,6 +240,7 @@ pub enum Item {
 
 impl Item {
     /// The value, of a value or a field.
+    #[inline]
     pub fn value(&self) -> Option<&Value> {
         match self {
             Item::Value(value) | Item::Field { value, .. } => Some(value),
@@ -203,11 +249,22 @@ impl Item {
     }
 
     /// The bytes of the item, its field ID included; of an end an empty span where it is.
+    #[inline]
     pub fn span(&self) -> Range<usize> {
         match self {
             Item::End { position } => *position..*position,
             Item::Marker(marker) => marker.span.clone(),
             Item::Value(value) | Item::Field { value, .. } => value.span(),
+        }
+    }
+
+    /// Where the item ends, and the next step begins.
+    #[inline]
+    pub(crate) fn end(&self) -> usize {
+        match self {
+            Item::End { position } => *position,
+            Item::Marker(marker) => marker.span.end,
+            Item::Value(value) | Item::Field { value, .. } => value.body.end,
         }
     }
 
@@ -256,6 +313,7 @@ impl Item {
     }
 }
 
+#[inline]
 fn marker(answer: &Answer) -> Result<Marker, Refusal> {
     Ok(Marker {
         span: answer.span::<2, 6>(),

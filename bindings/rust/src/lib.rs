@@ -1,6 +1,10 @@
 #![doc = include_str!("../README.md")]
+#![no_std]
 #![deny(missing_docs)]
 #![deny(unsafe_code)]
+
+#[cfg(feature = "alloc")]
+extern crate alloc;
 
 mod annotations;
 mod answer;

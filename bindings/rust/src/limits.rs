@@ -10,7 +10,7 @@ use crate::steps::{self, Body, Items};
 use crate::symbols::{self, Symbols};
 use crate::timestamp::{self, TimestampOr};
 use crate::walk::{self, Walk};
-use std::ops::{Range, RangeInclusive};
+use core::ops::{Range, RangeInclusive};
 
 /// What a title's maps may have. The functions of this crate read by the usual limits, [`Limits::DEFAULT`]; a title
 /// that sets others calls those that take limits as methods here.

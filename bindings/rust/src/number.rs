@@ -4,7 +4,7 @@ use crate::answer::{bytes, kind, Answer};
 use crate::raw;
 use crate::refusal::Refusal;
 use crate::scalar::{big_endian, signed};
-use std::ops::Range;
+use core::ops::Range;
 
 const VAR_UINT: u64 = 0;
 const VAR_INT: u64 = 1;

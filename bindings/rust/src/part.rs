@@ -1,9 +1,10 @@
 //! Parts of a map.
 
-use std::ops::Range;
+use core::ops::Range;
 
 /// What a part of a map is, which says how it is stepped through.
 #[derive(Clone, Copy, Debug, PartialEq, Eq, Hash)]
+#[non_exhaustive]
 pub enum PartKind {
     /// The whole map, or a part taken as one: markers and values.
     Stream,
@@ -14,6 +15,7 @@ pub enum PartKind {
 }
 
 impl PartKind {
+    #[inline]
     pub(crate) fn code(self) -> u64 {
         match self {
             PartKind::Stream => 0,
@@ -54,6 +56,7 @@ pub struct Part {
 
 impl Part {
     /// The part of this kind and span.
+    #[inline]
     pub fn new(kind: PartKind, span: Range<usize>) -> Part {
         Part {
             kind,
@@ -63,6 +66,7 @@ impl Part {
     }
 
     /// The whole map as a stream.
+    #[inline]
     pub fn stream(map: &[u8]) -> Part {
         Part::new(PartKind::Stream, 0..map.len())
     }

@@ -182,6 +182,13 @@ pub fn words(record: &Record) -> [u64; RECORD_WORDS] {
     words
 }
 
+/// Word I of a record, and nothing else of it.
+#[inline]
+pub(crate) fn word<const I: usize>(record: &Record) -> u64 {
+    let bytes = record.get(WORD_SIZE * I..WORD_SIZE * (I + 1)).unwrap_or_default();
+    u64::from_le_bytes(bytes.try_into().unwrap_or_default())
+}
+
 /// One step through the part `start..end`, which is a stream, a sequence or a struct (0, 1, 2); `annotations` is the
 /// most bytes of a value's annotations.
 ///
@@ -193,6 +200,7 @@ pub fn words(record: &Record) -> [u64; RECORD_WORDS] {
 /// assert_eq!(ion_map::raw::step(&[0x21, 0x07], 0, 2, 0, 3, 254, &mut record), 68);
 /// assert_eq!(ion_map::raw::step(&[0x21, 0x07], 0, 2, 0, 0, 255, &mut record[1..]), 51);
 /// ```
+#[inline]
 pub fn step(
     map: &[u8],
     start: usize,
@@ -228,6 +236,7 @@ pub fn step(
 /// assert_eq!(ion_map::raw::step_bounded(&[0x00, 0x00], 0, 2, 0, 0, 0, 255, &mut record), 67);
 /// ```
 #[allow(clippy::too_many_arguments)]
+#[inline]
 pub fn step_bounded(
     map: &[u8],
     start: usize,
@@ -262,6 +271,7 @@ pub fn step_bounded(
 /// assert_eq!(ion_map::raw::annotation(&[0xE3, 0x81, 0x84, 0x20], 2, 3, 2, &mut record), 0);
 /// assert_eq!(ion_map::raw::words(&record), [5, 0, 2, 4, 0, 0, 3, 0, 0]);
 /// ```
+#[inline]
 pub fn annotation(map: &[u8], start: usize, end: usize, position: usize, out: &mut [u8]) -> u64 {
     // SAFETY: as in `step`.
     unsafe {
@@ -284,6 +294,7 @@ pub fn annotation(map: &[u8], start: usize, end: usize, position: usize, out: &m
 /// assert_eq!(ion_map::raw::step_in(&[0xB1, 0x20], 0, 2, 0, 255, &mut record), 0);
 /// assert_eq!(ion_map::raw::words(&record), [6, 1, 0, 0, 0, 1, 2, 0, 1]);
 /// ```
+#[inline]
 pub fn step_in(map: &[u8], start: usize, end: usize, position: usize, annotations: usize, out: &mut [u8]) -> u64 {
     // SAFETY: as in `step`.
     unsafe {
@@ -307,6 +318,7 @@ pub fn step_in(map: &[u8], start: usize, end: usize, position: usize, annotation
 /// assert_eq!(ion_map::raw::scalar(&[0x71, 0x0A], 0, 2, 0, 255, &mut record), 0);
 /// assert_eq!(ion_map::raw::words(&record), [7, 0x71, 0, 6, 10, 0, 0, 0, 0]);
 /// ```
+#[inline]
 pub fn scalar(map: &[u8], start: usize, end: usize, position: usize, annotations: usize, out: &mut [u8]) -> u64 {
     // SAFETY: as in `step`.
     unsafe {
@@ -331,6 +343,7 @@ pub fn scalar(map: &[u8], start: usize, end: usize, position: usize, annotations
 /// assert_eq!(ion_map::raw::timestamp(&map, 0, 4, 0, 255, &mut record), 0);
 /// assert_eq!(ion_map::raw::words(&record), [11, 1, 0, 0, 2000, 0, 0, 0, 0]);
 /// ```
+#[inline]
 pub fn timestamp(map: &[u8], start: usize, end: usize, position: usize, annotations: usize, out: &mut [u8]) -> u64 {
     // SAFETY: as in `step`.
     unsafe {
@@ -354,6 +367,7 @@ pub fn timestamp(map: &[u8], start: usize, end: usize, position: usize, annotati
 /// assert_eq!(ion_map::raw::number(&[0x0F, 0xD0], 0, 2, 0, 0, 0, &mut record), 0);
 /// assert_eq!(ion_map::raw::words(&record), [8, 0, 0, 2000, 0, 2, 2, 0, 0]);
 /// ```
+#[inline]
 pub fn number(map: &[u8], start: usize, end: usize, position: usize, form: u64, length: usize, out: &mut [u8]) -> u64 {
     // SAFETY: as in `step`.
     unsafe {
@@ -378,6 +392,7 @@ pub fn number(map: &[u8], start: usize, end: usize, position: usize, form: u64, 
 /// assert_eq!(ion_map::raw::decimal(&[0x52, 0xC1, 0x63], 1, 3, &mut record), 0);
 /// assert_eq!(ion_map::raw::words(&record), [10, 0, 1, 99, 1, 3, 3, 1, 0]);
 /// ```
+#[inline]
 pub fn decimal(map: &[u8], start: usize, end: usize, out: &mut [u8]) -> u64 {
     // SAFETY: as in `step`.
     unsafe { ion_map_decimal(map.as_ptr(), map.len(), start, end, out.as_mut_ptr(), out.len()) }
@@ -393,6 +408,7 @@ pub fn decimal(map: &[u8], start: usize, end: usize, out: &mut [u8]) -> u64 {
 /// assert_eq!(ion_map::raw::words(&records[1]), [2, 0x11, 1, 1, 1, 2, 2, 0, 0]);
 /// assert_eq!(ion_map::raw::words(&records[2]), [0, 0, 2, 0, 0, 0, 0, 0, 0]);
 /// ```
+#[inline]
 pub fn steps(
     map: &[u8],
     start: usize,
@@ -427,6 +443,7 @@ pub fn steps(
 /// assert_eq!(ion_map::raw::walked(&[0xB1, 0x20], 100, 255, 32), 2);
 /// assert_eq!(ion_map::raw::walked(&[0xB1, 0x20], 100, 255, 65), 0);
 /// ```
+#[inline]
 pub fn walked(map: &[u8], most: u64, annotations: usize, depth: usize) -> u64 {
     // SAFETY: a slice's pointer is never null and has as many bytes as the slice; the function only reads them.
     unsafe { ion_map_walked(map.as_ptr(), map.len(), most, annotations, depth) }
@@ -439,6 +456,7 @@ pub fn walked(map: &[u8], most: u64, annotations: usize, depth: usize) -> u64 {
 /// assert_eq!(ion_map::raw::ids(&[0x80, 0x00, 0x84, 0x20], 0, 4, 0, 255), 2);
 /// assert_eq!(ion_map::raw::ids(&[0x80, 0x00, 0x84, 0x20], 0, 5, 0, 255), 0);
 /// ```
+#[inline]
 pub fn ids(map: &[u8], start: usize, end: usize, position: usize, annotations: usize) -> u64 {
     // SAFETY: as in `walked`.
     unsafe { ion_map_ids(map.as_ptr(), map.len(), start, end, position, annotations) }
@@ -459,6 +477,7 @@ pub fn ids(map: &[u8], start: usize, end: usize, position: usize, annotations: u
 /// assert_eq!(raw::text(&map, b"", 0, 8, 8, 4, 255, &mut record), 66);
 /// ```
 #[allow(clippy::too_many_arguments)] // as many as the function has
+#[inline]
 pub fn text(
     map: &[u8],
     system: &[u8],
@@ -497,6 +516,7 @@ pub fn text(
 /// assert_eq!(raw::symbols(&map, SYSTEM_TEXT.as_bytes(), 0, 8, 8, 255, &mut record), 0);
 /// assert_eq!(raw::words(&record), [19, 1, 0, 0, 0, 6, 8, 0, 2]);
 /// ```
+#[inline]
 pub fn symbols(
     map: &[u8],
     system: &[u8],
@@ -532,6 +552,7 @@ pub fn symbols(
 /// assert_eq!(raw::symbol_text(&[0x81, 0x61], SYSTEM_TEXT.as_bytes(), 0, 2, 10, 255, &mut record), 0);
 /// assert_eq!(raw::words(&record), [13, 1, 0, 0, 0, 1, 2, 10, 1]);
 /// ```
+#[inline]
 pub fn symbol_text(
     map: &[u8],
     system: &[u8],
@@ -571,6 +592,7 @@ pub const CHECK_SIZE: usize = CHECK_WORDS * 8;
 /// assert_eq!(ion_map::raw::check(&[0xB1, 0x20], 255, 32, &mut record), 0);
 /// assert_eq!((record[0], record[8 * 5], record[8 * 13]), (12, 1, 1));
 /// ```
+#[inline]
 pub fn check(map: &[u8], annotations: usize, depth: usize, out: &mut [u8]) -> u64 {
     // SAFETY: as in `step`.
     unsafe { ion_map_check(map.as_ptr(), map.len(), annotations, depth, out.as_mut_ptr(), out.len()) }

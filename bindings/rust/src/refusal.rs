@@ -1,7 +1,7 @@
 //! Why a function gives no answer.
 
-use std::error::Error;
-use std::fmt;
+use core::error::Error;
+use core::fmt;
 
 /// Why there is no answer, and where: a number, and a position in the map.
 ///
@@ -13,7 +13,9 @@ use std::fmt;
 /// assert_eq!(refusal, Refusal { number: Refusal::VALUE_CUT, position: 0 });
 /// assert_eq!(refusal.to_string(), "refusal 8 at 0: a value that runs past the part");
 /// ```
-#[derive(Clone, Copy, Debug, PartialEq, Eq, Hash)]
+///
+/// Its `Debug`, which a failed `unwrap` prints, has the words too.
+#[derive(Clone, Copy, PartialEq, Eq, Hash)]
 pub struct Refusal {
     /// Which refusal it is: one of the constants here.
     pub number: u64,
@@ -101,6 +103,16 @@ impl Refusal {
 impl fmt::Display for Refusal {
     fn fmt(&self, f: &mut fmt::Formatter<'_>) -> fmt::Result {
         write!(f, "refusal {} at {}: {}", self.number, self.position, self.words())
+    }
+}
+
+impl fmt::Debug for Refusal {
+    fn fmt(&self, f: &mut fmt::Formatter<'_>) -> fmt::Result {
+        f.debug_struct("Refusal")
+            .field("number", &self.number)
+            .field("position", &self.position)
+            .field("words", &self.words())
+            .finish()
     }
 }
 

@@ -6,10 +6,11 @@ use crate::limits::Limits;
 use crate::part::Part;
 use crate::raw;
 use crate::refusal::Refusal;
-use std::str;
+use core::str;
 
 /// What a value is. Parts are the map's own bytes.
 #[derive(Clone, Copy, Debug, PartialEq)]
+#[non_exhaustive]
 pub enum Scalar<'a> {
     /// A null of this type.
     Null(Type),
@@ -40,7 +41,54 @@ pub enum Scalar<'a> {
     Container(Type),
 }
 
-impl Scalar<'_> {
+impl<'a> Scalar<'a> {
+    /// A string's text; nothing of any other type.
+    ///
+    /// ```
+    /// use ion_map::{scalar, Part};
+    ///
+    /// let map = [0x82, 0x68, 0x69, 0x71, 0x0A]; // the string "hi", and the symbol 10
+    /// assert_eq!(scalar(&map, Part::stream(&map), 0)?.as_str(), Some("hi"));
+    /// assert_eq!(scalar(&map, Part::stream(&map), 3)?.as_str(), None);
+    /// # Ok::<(), ion_map::Refusal>(())
+    /// ```
+    pub fn as_str(&self) -> Option<&'a str> {
+        match self {
+            Scalar::String(text) => Some(text),
+            _ => None,
+        }
+    }
+
+    /// Which bool it is; nothing of any other type.
+    pub fn as_bool(&self) -> Option<bool> {
+        match self {
+            Scalar::Bool(is) => Some(*is),
+            _ => None,
+        }
+    }
+
+    /// A float's value; nothing of any other type, ints and decimals included.
+    pub fn as_f64(&self) -> Option<f64> {
+        match self {
+            Scalar::Float(number) => Some(*number),
+            _ => None,
+        }
+    }
+
+    /// An int's value, where it fits; nothing of any other type.
+    ///
+    /// ```
+    /// use ion_map::{scalar, Part};
+    ///
+    /// let map = [0x38, 0x80, 0, 0, 0, 0, 0, 0, 0, 0x28, 0x80, 0, 0, 0, 0, 0, 0, 0]; // -2^63 and 2^63
+    /// assert_eq!(scalar(&map, Part::stream(&map), 0)?.as_i64(), Some(i64::MIN));
+    /// assert_eq!(scalar(&map, Part::stream(&map), 9)?.as_i64(), None);
+    /// # Ok::<(), ion_map::Refusal>(())
+    /// ```
+    pub fn as_i64(&self) -> Option<i64> {
+        self.to_i128().and_then(|number| i64::try_from(number).ok())
+    }
+
     /// An int's value, where it has room.
     ///
     /// ```

@@ -4,14 +4,11 @@ use crate::answer::{kind, Answer};
 use crate::item::Item;
 use crate::limits::Limits;
 use crate::part::{Part, PartKind};
-use crate::raw::{self, Record, RECORD_SIZE};
+use crate::raw;
 use crate::refusal::Refusal;
-use std::iter::FusedIterator;
-use std::ops::Range;
-
-/// How many steps are taken at once. More of them cost more stack, and save no calls in the short bodies that maps
-/// are made of.
-const BATCH: usize = 16;
+use core::fmt;
+use core::iter::FusedIterator;
+use core::ops::Range;
 
 /// One step: passes the pads at `position` and hands out the marker, value or field after them, or the end.
 ///
@@ -31,9 +28,22 @@ pub fn step(map: &[u8], part: Part, position: usize) -> Result<Item, Refusal> {
 }
 
 pub(crate) fn step_by(limits: Limits, map: &[u8], part: Part, position: usize) -> Result<Item, Refusal> {
-    let Part { kind, start, end } = part;
-    let answer = Answer::of(|out| raw::step(map, start, end, position, kind.code(), limits.annotations, out))?;
+    let mut answer = Answer::EMPTY;
+    ask_step(&mut answer, limits, map, part, position)?;
     Item::from_answer(&answer)
+}
+
+/// Puts the record of a step into `answer`.
+#[inline]
+pub(crate) fn ask_step(
+    answer: &mut Answer,
+    limits: Limits,
+    map: &[u8],
+    part: Part,
+    position: usize,
+) -> Result<(), Refusal> {
+    let Part { kind, start, end } = part;
+    answer.ask(|out| raw::step(map, start, end, position, kind.code(), limits.annotations, out))
 }
 
 /// The markers, values and fields of a part, in order.
@@ -61,10 +71,8 @@ pub struct Items<'a> {
     part: Part,
     position: usize,
     ended: bool,
-    /// Records of the steps from `position` on, from `taken` to `filled`.
-    batch: [Record; BATCH],
-    taken: usize,
-    filled: usize,
+    /// Room for the record of a step, kept so that it isn't cleared for each.
+    answer: Answer,
 }
 
 impl<'a> Items<'a> {
@@ -75,19 +83,8 @@ impl<'a> Items<'a> {
             part,
             position: part.start,
             ended: false,
-            batch: [[0; RECORD_SIZE]; BATCH],
-            taken: 0,
-            filled: 0,
+            answer: Answer::EMPTY,
         }
-    }
-
-    /// Begins with another part. The records need no clearing, since none of them counts any more.
-    pub(crate) fn restart(&mut self, part: Part) {
-        self.part = part;
-        self.position = part.start;
-        self.ended = false;
-        self.taken = 0;
-        self.filled = 0;
     }
 
     /// The part that is stepped through.
@@ -112,30 +109,11 @@ impl<'a> Items<'a> {
         self.position
     }
 
-    /// The record of the next step. There is always one: steps give at least one record, and go on after the last.
     #[inline]
-    fn next_record(&mut self) -> Option<&Record> {
-        if self.taken == self.filled {
-            self.fill();
-        }
-        self.taken += 1;
-        self.batch.get(..self.filled)?.get(self.taken - 1)
-    }
-
-    fn fill(&mut self) {
-        let Part { kind, start, end } = self.part;
-        let limit = self.limits.annotations;
-        let out = self.batch.as_flattened_mut();
-        let (_, count) = raw::steps(self.map, start, end, self.position, kind.code(), limit, out);
-        self.taken = 0;
-        self.filled = BATCH.min(count as usize);
-    }
-
-    #[inline]
-    fn take(&mut self) -> Result<Item, Refusal> {
-        let record = self.next_record().ok_or(Refusal::unknown_answer())?;
-        let item = Item::from_record(record)?;
-        self.position = item.span().end;
+    fn step(&mut self) -> Result<Item, Refusal> {
+        ask_step(&mut self.answer, self.limits, self.map, self.part, self.position)?;
+        let item = Item::from_answer(&self.answer)?;
+        self.position = item.end();
         Ok(item)
     }
 }
@@ -148,9 +126,9 @@ impl Iterator for Items<'_> {
         if self.ended {
             return None;
         }
-        let taken = self.take();
-        self.ended = matches!(taken, Ok(Item::End { .. }) | Err(_));
-        match taken {
+        let met = self.step();
+        self.ended = matches!(met, Ok(Item::End { .. }) | Err(_));
+        match met {
             Ok(Item::End { .. }) => None,
             other => Some(other),
         }
@@ -159,9 +137,9 @@ impl Iterator for Items<'_> {
 
 impl FusedIterator for Items<'_> {}
 
-impl std::fmt::Debug for Items<'_> {
-    // The records would be a page of bytes.
-    fn fmt(&self, f: &mut std::fmt::Formatter<'_>) -> std::fmt::Result {
+impl fmt::Debug for Items<'_> {
+    // The record's bytes would say nothing.
+    fn fmt(&self, f: &mut fmt::Formatter<'_>) -> fmt::Result {
         f.debug_struct("Items")
             .field("part", &self.part)
             .field("position", &self.position)

@@ -4,8 +4,8 @@ use crate::answer::{bytes, kind, Answer};
 use crate::limits::Limits;
 use crate::raw;
 use crate::refusal::Refusal;
-use std::ops::Range;
-use std::str;
+use core::ops::Range;
+use core::str;
 
 /// The texts of the IDs 1 to 9, joined.
 pub const SYSTEM_TEXT: &str = "$ion$ion_1_0$ion_symbol_tablenameversionimportssymbolsmax_id$ion_shared_symbol_table";

@@ -6,9 +6,12 @@ use crate::part::Part;
 use crate::raw;
 use crate::refusal::Refusal;
 use crate::scalar::{self, Scalar};
+#[cfg(feature = "alloc")]
+use alloc::{format, string::String, string::ToString};
 
 /// How far a timestamp goes. An hour stands with its minute.
 #[derive(Clone, Copy, Debug, PartialEq, Eq, PartialOrd, Ord, Hash)]
+#[non_exhaustive]
 pub enum Precision {
     /// To the year.
     Year,
@@ -61,12 +64,14 @@ pub struct Timestamp {
 }
 
 /// The most digits behind a second that are written out.
+#[cfg(feature = "alloc")]
 const MOST_PLACES: u64 = 1000;
 
+#[cfg(feature = "alloc")]
 impl Timestamp {
     /// RFC 3339's text, in local time: a date and time where there is a second, a date where a day is the last field. An
     /// unknown offset is `-00:00`. There is no such text of any other precision, of a local year outside 0 to 9999, and
-    /// of a fraction of more than a thousand digits.
+    /// of a fraction of more than a thousand digits. With the feature `alloc`.
     ///
     /// ```
     /// use ion_map::{Precision, Timestamp};
@@ -148,6 +153,7 @@ impl Timestamp {
     }
 }
 
+#[cfg(feature = "alloc")]
 fn days_in(year: i32, month: u8) -> u8 {
     match month {
         2 if year % 4 == 0 && (year % 100 != 0 || year % 400 == 0) => 29,
@@ -157,6 +163,7 @@ fn days_in(year: i32, month: u8) -> u8 {
     }
 }
 
+#[cfg(feature = "alloc")]
 fn day_before(year: i32, month: u8, day: u8) -> (i32, u8, u8) {
     match (month, day) {
         (1, 1) => (year - 1, 12, 31),
@@ -165,6 +172,7 @@ fn day_before(year: i32, month: u8, day: u8) -> (i32, u8, u8) {
     }
 }
 
+#[cfg(feature = "alloc")]
 fn day_after(year: i32, month: u8, day: u8) -> (i32, u8, u8) {
     match (month, day) {
         (12, 31) => (year + 1, 1, 1),
@@ -175,6 +183,7 @@ fn day_after(year: i32, month: u8, day: u8) -> (i32, u8, u8) {
 
 /// A value where a timestamp is asked for.
 #[derive(Clone, Copy, Debug, PartialEq)]
+#[non_exhaustive]
 pub enum TimestampOr<'a> {
     /// A timestamp.
     Timestamp(Timestamp),

@@ -1,12 +1,14 @@
 //! The walk of a whole map.
 
-use crate::item::{Item, Value};
+use crate::answer::{kind, Answer};
+use crate::item::Item;
 use crate::limits::Limits;
 use crate::part::Part;
 use crate::raw;
 use crate::refusal::Refusal;
-use crate::steps::Items;
-use std::iter::FusedIterator;
+use crate::steps::ask_step;
+use core::fmt;
+use core::iter::FusedIterator;
 
 /// The markers and values of a whole map, each with its depth, a container before what is in it. Scalars aren't read.
 ///
@@ -29,8 +31,8 @@ pub fn walk(map: &[u8]) -> Walk<'_> {
     Walk::new(Limits::DEFAULT, map)
 }
 
-/// How many markers and values [`walk`] hands out before its end or its refusal, at most `most`. No memory is taken
-/// for it, and it is faster than to count them.
+/// How many markers and values [`walk`] hands out before its end or its refusal, at most `most`. It is faster than to
+/// count them.
 ///
 /// ```
 /// let map = [0xE0, 0x01, 0x00, 0xEA, 0xB3, 0x21, 0x07, 0x00];
@@ -45,17 +47,23 @@ pub(crate) fn walked_by(limits: Limits, map: &[u8], most: u64) -> u64 {
     raw::walked(map, most, limits.annotations, limits.depth)
 }
 
+/// How many parts a walk is in at most: the stream, and a body at each depth.
+const PARTS: usize = *Limits::DEPTH.end() + 1;
+
 /// The iterator that [`walk`] gives. It stops at the map's end, or after the first refusal.
-#[derive(Clone, Debug)]
+#[derive(Clone)]
 pub struct Walk<'a> {
     limits: Limits,
     map: &'a [u8],
-    /// The parts from the stream down to `depth`. Those below are kept to be used again, since their records take
-    /// long to clear beside what most bodies hold.
-    levels: Vec<Items<'a>>,
+    /// The parts from the stream down to `depth`.
+    parts: [Part; PARTS],
     depth: usize,
-    part: Part,
+    position: usize,
+    /// The depth of the last item.
+    handed: usize,
     next: Next,
+    /// Room for the record of a step, kept so that it isn't cleared for each.
+    answer: Answer,
 }
 
 /// What the next call does.
@@ -80,10 +88,12 @@ impl<'a> Walk<'a> {
         Walk {
             limits,
             map,
-            levels: vec![Items::new(limits, map, Part::stream(map))],
+            parts: [Part::stream(map); PARTS],
             depth: 0,
-            part: Part::stream(map),
+            position: 0,
+            handed: 0,
             next,
+            answer: Answer::EMPTY,
         }
     }
 
@@ -102,7 +112,7 @@ impl<'a> Walk<'a> {
     /// # Ok::<(), ion_map::Refusal>(())
     /// ```
     pub fn part(&self) -> Part {
-        self.part
+        self.parts.get(self.handed).copied().unwrap_or(Part::stream(self.map))
     }
 
     /// Where the next step begins. After the end it is the end's position.
@@ -113,42 +123,57 @@ impl<'a> Walk<'a> {
     /// assert_eq!(walk.position(), 3);
     /// ```
     pub fn position(&self) -> usize {
-        self.levels.get(self.depth).map_or(0, Items::position)
+        self.position
     }
 
+    #[inline]
     fn step(&mut self) -> Option<Result<(usize, Item), Refusal>> {
         loop {
             let depth = self.depth;
-            let level = self.levels.get_mut(depth)?;
-            match level.next() {
-                Some(Ok(item)) => {
-                    self.part = level.part();
-                    self.enter(item.value());
-                    return Some(Ok((depth, item)));
-                }
-                Some(Err(refusal)) => return Some(Err(refusal)),
-                None if depth == 0 => return None,
-                None => self.depth -= 1,
+            let part = *self.parts.get(depth)?;
+            if let Err(refusal) = ask_step(&mut self.answer, self.limits, self.map, part, self.position) {
+                return Some(Err(refusal));
             }
+            if self.answer.kind() != kind::END {
+                return Some(self.take(depth));
+            }
+            self.position = part.end;
+            if depth == 0 {
+                return None;
+            }
+            // The container ends where its body does.
+            self.depth -= 1;
         }
     }
 
-    /// Goes on in the value's body, if it has one to be stepped through.
-    fn enter(&mut self, value: Option<&Value>) {
-        let Some((value, body)) = value.and_then(|value| Some((value, value.part()?))) else {
-            return;
-        };
-        if self.depth == self.limits.depth {
-            self.next = Next::Refuse(Refusal {
-                number: Refusal::TOO_DEEP,
-                position: value.descriptor(),
-            });
-            return;
+    /// The item that the record is of, at this depth.
+    #[inline]
+    fn take(&mut self, depth: usize) -> Result<(usize, Item), Refusal> {
+        let item = Item::from_answer(&self.answer)?;
+        self.handed = depth;
+        self.position = item.end();
+        if let Some((value, body)) = item.value().and_then(|value| Some((value, value.part()?))) {
+            self.enter(value.descriptor(), body);
         }
-        self.depth += 1;
-        match self.levels.get_mut(self.depth) {
-            Some(level) => level.restart(body),
-            None => self.levels.push(Items::new(self.limits, self.map, body)),
+        Ok((depth, item))
+    }
+
+    /// Goes on in the body of the container with this descriptor.
+    #[inline]
+    fn enter(&mut self, descriptor: usize, body: Part) {
+        let below = self.depth + 1;
+        match self.parts.get_mut(below) {
+            Some(part) if below <= self.limits.depth => {
+                *part = body;
+                self.depth = below;
+                self.position = body.start;
+            }
+            _ => {
+                self.next = Next::Refuse(Refusal {
+                    number: Refusal::TOO_DEEP,
+                    position: descriptor,
+                })
+            }
         }
     }
 }
@@ -156,6 +181,7 @@ impl<'a> Walk<'a> {
 impl Iterator for Walk<'_> {
     type Item = Result<(usize, Item), Refusal>;
 
+    #[inline]
     fn next(&mut self) -> Option<Self::Item> {
         let met = match self.next {
             Next::Step => self.step(),
@@ -170,3 +196,14 @@ impl Iterator for Walk<'_> {
 }
 
 impl FusedIterator for Walk<'_> {}
+
+impl fmt::Debug for Walk<'_> {
+    // Of the parts those that the walk is in, and nothing of the record.
+    fn fmt(&self, f: &mut fmt::Formatter<'_>) -> fmt::Result {
+        f.debug_struct("Walk")
+            .field("parts", &self.parts.get(..=self.depth))
+            .field("position", &self.position)
+            .field("next", &self.next)
+            .finish_non_exhaustive()
+    }
+}

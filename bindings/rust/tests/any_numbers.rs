@@ -248,6 +248,7 @@ fn check_timestamp(map: &[u8], position: usize) {
         Ok(TimestampOr::Scalar(Scalar::Timestamp(_))) => panic!("a timestamp that isn't read"),
         // The bits of a NaN are compared.
         Ok(TimestampOr::Scalar(other)) => assert_eq!(format!("{other:?}"), format!("{:?}", value.unwrap())),
+        Ok(other) => panic!("{other:?}"),
         Err(refusal) => assert!(value.err().is_none_or(|value| value == refusal)),
     }
 }
@@ -287,6 +288,7 @@ fn check_bounded(map: &[u8], part: Part, most: usize) {
                 assert!(pads == most && at + pads <= position && position < part.end);
             }
             Ok(Bounded::Reached(item)) => reached.push(Ok(item)),
+            Ok(other) => panic!("{other:?}"),
             Err(refusal) => reached.push(Err(refusal)),
         }
         at = bounded.position();
@@ -294,7 +296,8 @@ fn check_bounded(map: &[u8], part: Part, most: usize) {
     assert_eq!(reached, plain);
 }
 
-/// What is handed out can be looked at: it is there, and stepping in gives the body that the item has.
+/// What is handed out can be looked at: it is there, stepping in gives the body that the item has, and it reads by itself
+/// as in the part that handed it out.
 fn check_walk(map: &[u8]) {
     let mut count = 0;
     let mut walk = walk(map);
@@ -306,6 +309,12 @@ fn check_walk(map: &[u8]) {
             let body = step_in(map, walk.part(), value.descriptor()).ok();
             assert_eq!(body.map(|body| body.part), value.part());
             assert_eq!(body.map(|body| body.body_len), value.part().map(|_| value.body_len));
+            // By itself a value reads as in its part; the bits of a NaN are compared.
+            let (part, descriptor) = (walk.part(), value.descriptor());
+            let read = scalar(map, part, descriptor);
+            assert_eq!(format!("{:?}", value.read(map)), format!("{read:?}"));
+            let read = timestamp(map, part, descriptor);
+            assert_eq!(format!("{:?}", value.read_timestamp(map)), format!("{read:?}"));
         }
     }
     assert_eq!(walked(map, u64::MAX), count);

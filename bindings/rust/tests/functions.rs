@@ -193,7 +193,7 @@ fn items_of_a_part() {
 }
 
 #[test]
-fn items_of_more_than_a_batch() {
+fn items_of_a_long_part() {
     let map = [0x11; 100];
     let mut items = items(&map, Part::stream(&map));
     for at in 0..100 {
@@ -421,10 +421,78 @@ fn decimals_in_a_map() {
     assert_eq!(split.to_string(), "-197121d-1");
 }
 
+/// What fits is given, and nothing of another type or of a null.
+#[test]
+fn scalars_as_what_they_are() {
+    let all = |map: &[u8]| {
+        let read = read(map).unwrap();
+        let text = read.as_str().map(str::to_string);
+        (text, read.as_bool(), read.as_f64(), read.as_i64())
+    };
+    assert_eq!(all(&[0x82, 0x68, 0x69]), (Some("hi".to_string()), None, None, None));
+    assert_eq!(all(&[0x80]), (Some(String::new()), None, None, None));
+    assert_eq!(all(&[0x11]), (None, Some(true), None, None));
+    assert_eq!(all(&[0x10]), (None, Some(false), None, None));
+    assert_eq!(all(&[0x44, 0x3F, 0xC0, 0, 0]), (None, None, Some(1.5), None));
+    assert_eq!(all(&[0x40]), (None, None, Some(0.0), None));
+    assert_eq!(all(&[0x20]), (None, None, None, Some(0)));
+    assert_eq!(all(&[0x31, 0x07]), (None, None, None, Some(-7)));
+    let most = [0x28, 0x7F, 0xFF, 0xFF, 0xFF, 0xFF, 0xFF, 0xFF, 0xFF];
+    assert_eq!(all(&most), (None, None, None, Some(i64::MAX)));
+    let least = [0x38, 0x80, 0, 0, 0, 0, 0, 0, 0];
+    assert_eq!(all(&least), (None, None, None, Some(i64::MIN)));
+    let none: [&[u8]; 8] = [
+        &[0x28, 0x80, 0, 0, 0, 0, 0, 0, 0],
+        &[0x38, 0x80, 0, 0, 0, 0, 0, 0, 1],
+        &[0x0F],
+        &[0x8F],
+        &[0x2F],
+        &[0x71, 0x0A],
+        &[0x91, 0x61],
+        &[0xB0],
+    ];
+    for map in none {
+        assert_eq!(all(map), (None, None, None, None), "{map:X?}");
+    }
+}
+
+/// A value is read where it is handed out, also behind annotations that only the limits of its walk allow.
+#[test]
+fn values_read_themselves() {
+    let mut map = vec![0xEE, 0x02, 0x84, 0x02, 0x80]; // 256 bytes of annotations, and the int 7
+    map.extend([0x84; 256]);
+    map.extend([0x21, 0x07, 0x64, 0x80, 0x0F, 0xD0, 0x81]); // and 2000-01
+    let limits = Limits {
+        annotations: 256,
+        ..Limits::DEFAULT
+    };
+    let values: Vec<_> = limits
+        .walk(&map)
+        .map(|met| met.unwrap().1.value().cloned().unwrap())
+        .collect();
+    assert_eq!(values.len(), 2);
+    assert_eq!(values[0].read(&map).unwrap().as_i64(), Some(7));
+    let Ok(TimestampOr::Timestamp(month)) = values[1].read_timestamp(&map) else {
+        panic!("no timestamp")
+    };
+    assert_eq!((month.year, month.month, month.precision), (2000, 1, Precision::Month));
+    assert_eq!(values[1].read(&[]), Err(refusal(Refusal::OUTSIDE, 0))); // another map than its own
+}
+
+/// What a failed `unwrap` prints says what is wrong.
+#[test]
+fn refusals_say_why_where_they_are_unwrapped() {
+    let refusal = first(&[0x22, 0x05]).unwrap_err();
+    assert_eq!(
+        format!("{refusal:?}"),
+        "Refusal { number: 8, position: 0, words: \"a value that runs past the part\" }"
+    );
+}
+
 fn stamp(map: &[u8]) -> Result<Timestamp, Refusal> {
     match timestamp(map, Part::stream(map), 0)? {
         TimestampOr::Timestamp(timestamp) => Ok(timestamp),
-        TimestampOr::Scalar(scalar) => panic!("{scalar:?}"),
+        other => panic!("{other:?}"),
     }
 }
 
@@ -659,7 +727,7 @@ fn refusals_in_words() {
         assert_ne!(refusal(number, 0).words(), unknown, "{number}");
     }
     let error: Box<dyn Error> = Box::new(refusal(Refusal::BAD_UTF8, 7));
-    assert_eq!(error.to_string(), "refusal 36 at 7: bad UTF-8");
+    assert_eq!(error.to_string(), "refusal 36 at 7: text that is not UTF-8");
 }
 
 #[test]

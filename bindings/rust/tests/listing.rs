@@ -22,7 +22,7 @@ fn line(depth: usize, item: &Item) -> String {
             value.body.start,
             value.body.end
         ),
-        Item::End { position } => panic!("the walk handed out an end at {position}"),
+        other => panic!("the walk handed out {other:?}"),
     }
 }
 
