@@ -1,8 +1,9 @@
-/* The limit that a reader can be held against: loops that take every length at its word.
+/* Loops without tests, to hold a reader against: they take every length at its word.
 
    They pass from item to item by descriptor and length and go into every container. Nothing is tested but
    that they stay inside the part: no marker's last byte, no reserved byte, no float's length, no wrapper's
-   length, no nine-byte limit. So they aren't readers; on a good map they meet the same items. */
+   length, no nine-byte limit. So they aren't readers; on a good map they meet the same items. They are plain
+   code, not the limit of what can be reached: our walk passes them on some maps. */
 
 #include "../include/ion_map.h"
 
@@ -66,7 +67,8 @@ static inline uint64_t skip(const uint8_t *map, size_t len, uint64_t *ends_sum, 
         annotations = descriptor = at;
         byte = map[at++];
         if (byte < 15) {
-            at = past(at, end, byte == 14 ? var_uint(map, end, &at) : byte);
+            length = byte == 14 ? var_uint(map, end, &at) : byte; /* moves `at`, so it comes first */
+            at = past(at, end, length);
             continue;
         }
         if (byte >= 0xE0) {

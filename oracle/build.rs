@@ -101,7 +101,7 @@ const EXPORTS: [&str; 15] = [
 fn link_reader(here: &Path, out: &Path, program: &str) {
     let given = match env::var_os("LIBMAPS") {
         Some(archive) => PathBuf::from(archive),
-        None => here.join("../target/staticlib/libmaps.a"),
+        None => here.join("../target/libion_map.a"),
     };
     let archive = fs::read(&given).unwrap_or_else(|error| panic!("{}: {error}", given.display()));
     fs::write(out.join("missing.rs"), missing(&archive)).unwrap();

@@ -3,7 +3,7 @@
 [ -f target/ion-rust ] || ./setup
 ION_RUST=$(cat target/ion-rust)
 if [ -z "${LIBMAPS:-}" ]; then
-    (cd .. && rt staticlib maps)
-    LIBMAPS=$(cd .. && pwd)/target/staticlib/libmaps.a
+    (cd .. && ./archive)
+    LIBMAPS=$(cd .. && pwd)/target/libion_map.a
 fi
 export ION_RUST LIBMAPS

@@ -138,7 +138,8 @@ fn best(measured: &[Measured], reader: Reader) -> f64 {
 }
 
 fn is_ours(reader: Reader) -> bool {
-    !matches!(reader, Reader::Rust | Reader::Skip | Reader::SkipRecords)
+    use Reader::*;
+    matches!(reader, Steps16 | Steps1024 | Step | Walk | CrateItems | CrateWalk)
 }
 
 type Made = (&'static str, fn(usize) -> Vec<u8>);
@@ -162,10 +163,10 @@ const GROWING: [Reader; 5] = [
 ];
 
 fn kinds(size: usize, rounds: usize, noise: &mut Noise) {
-    let rows = KINDS.map(|(name, make)| Row::new(name.to_string(), make(size), &ALL));
+    let rows = KINDS.map(|(name, make)| Row::new(name.to_string(), make(size), ALL));
     println!("| Map | Reader | ns an item | million items a second | times the Rust's speed | times C skip's | times C records' |");
     println!("|---|---|---|---|---|---|---|");
-    for (row, measured) in rows.iter().zip(measure(&rows, &ALL, rounds, noise)) {
+    for (row, measured) in rows.iter().zip(measure(&rows, ALL, rounds, noise)) {
         for one in &measured {
             let against = |other: Reader| match is_ours(one.reader) {
                 true => format!("{:.2}", best(&measured, other) / one.best),
@@ -227,8 +228,8 @@ fn once(kind: &str, reader: &str) {
         .into_iter()
         .find(|(name, _)| *name == kind)
         .expect("the map is terrain, symbols, annotated, padded, opened or nested");
-    let reader = ALL
-        .into_iter()
+    let reader = *ALL
+        .iter()
         .find(|one| one.name() == reader)
         .expect("the reader is named as in the table");
     let map = make(MEGABYTE);

@@ -15,37 +15,33 @@ use oracle::lazy::streaming_raw_reader::RawReaderState;
 use oracle::{IonResult, IonType, RECORD_WORDS};
 
 mod linked {
+    use super::Part;
+
     extern "C" {
-        // Our reader: libmaps.a.
-        pub fn ion_map_step(
-            map: *const u8,
-            length: usize,
-            start: usize,
-            end: usize,
-            position: usize,
-            kind: u64,
-            annotations: usize,
-            out: *mut u8,
-            room: usize,
-        ) -> u64;
-        pub fn ion_map_steps(
-            map: *const u8,
-            length: usize,
-            start: usize,
-            end: usize,
-            position: usize,
-            kind: u64,
-            annotations: usize,
-            out: *mut u8,
-            room: usize,
-            count: *mut u64,
-        ) -> u64;
+        // Our reader: libion_map.a.
         pub fn ion_map_walked(
             map: *const u8,
             length: usize,
             most: u64,
             annotations: usize,
             depth: usize,
+        ) -> u64;
+        // Callers of it by the header: steps.c.
+        pub fn header_step(
+            map: *const u8,
+            length: usize,
+            ends: *mut u64,
+            above: *mut Part,
+            room: usize,
+        ) -> u64;
+        pub fn header_steps(
+            map: *const u8,
+            length: usize,
+            ends: *mut u64,
+            records: *mut u8,
+            batch: usize,
+            parts: *mut Part,
+            room: usize,
         ) -> u64;
         // The C loops: skip.c.
         pub fn skip_count(map: *const u8, length: usize, ends: *mut u64) -> u64;
@@ -56,10 +52,12 @@ mod linked {
             records: *mut u64,
             room: usize,
         ) -> u64;
+        #[cfg(clang)]
+        pub fn clang_skip_count(map: *const u8, length: usize, ends: *mut u64) -> u64;
     }
 }
 
-/// A record, as our reader and the C loops write it.
+/// A record.
 type Record = [u64; RECORD_WORDS];
 
 #[derive(Clone, Copy, Debug, PartialEq)]
@@ -75,18 +73,26 @@ pub enum Reader {
     Steps1024,
     Step,
     Walk,
+    CrateItems,
+    CrateWalk,
     Rust,
     Skip,
+    #[cfg(clang)]
+    ClangSkip,
     SkipRecords,
 }
 
-pub const ALL: [Reader; 7] = [
+pub const ALL: &[Reader] = &[
     Reader::Steps16,
     Reader::Steps1024,
     Reader::Step,
     Reader::Walk,
+    Reader::CrateItems,
+    Reader::CrateWalk,
     Reader::Rust,
     Reader::Skip,
+    #[cfg(clang)]
+    Reader::ClangSkip,
     Reader::SkipRecords,
 ];
 
@@ -101,7 +107,7 @@ impl Room {
     pub fn new() -> Self {
         Room {
             records: vec![[0; RECORD_WORDS]; 1024],
-            parts: Vec::with_capacity(1 << 16),
+            parts: vec![Part::default(); 1 << 16],
             context: EncodingContext::empty(),
         }
     }
@@ -114,8 +120,12 @@ impl Reader {
             Reader::Steps1024 => "steps, 1024",
             Reader::Step => "step",
             Reader::Walk => "walk",
+            Reader::CrateItems => "crate, items",
+            Reader::CrateWalk => "crate, walk",
             Reader::Rust => "Rust",
             Reader::Skip => "C skip",
+            #[cfg(clang)]
+            Reader::ClangSkip => "C skip, clang",
             Reader::SkipRecords => "C records",
         }
     }
@@ -126,17 +136,22 @@ impl Reader {
             Reader::Steps1024 => steps(map, 1024, room),
             Reader::Step => single_steps(map, room),
             Reader::Walk => walk(map),
+            Reader::CrateItems => crate_items(map).expect("the maps are good"),
+            Reader::CrateWalk => crate_walk(map).expect("the maps are good"),
             Reader::Rust => rust(map, room).expect("the maps are good"),
             Reader::Skip => skip(map),
+            #[cfg(clang)]
+            Reader::ClangSkip => clang_skip(map),
             Reader::SkipRecords => skip_records(map, room),
         }
     }
 }
 
-// ===== Ours =====
+// ===== Ours, from C =====
 
-/// A part of the map: its span, where to go on, and what it is.
-#[derive(Clone, Copy)]
+/// A part of the map, as steps.c has it.
+#[derive(Clone, Copy, Default)]
+#[repr(C)]
 pub struct Part {
     start: usize,
     end: usize,
@@ -144,70 +159,19 @@ pub struct Part {
     kind: u64,
 }
 
-impl Part {
-    fn whole(map: &[u8]) -> Self {
-        Part {
-            start: 0,
-            end: map.len(),
-            at: 0,
-            kind: 0,
-        }
-    }
-
-    /// The body of the container that a record is of.
-    fn body(record: &Record) -> Self {
-        Part {
-            start: record[5] as usize,
-            end: record[6] as usize,
-            at: record[5] as usize,
-            kind: if record[1] >> 4 == 13 { 2 } else { 1 },
-        }
-    }
-}
-
-/// A list, sexp or struct that isn't null.
-fn is_open(byte: u64) -> bool {
-    (0xB0..0xE0).contains(&byte) && byte & 15 != 15
-}
-
 /// One call for each item and each end, a container's body before what follows it.
 fn single_steps(map: &[u8], room: &mut Room) -> Met {
-    let above = &mut room.parts;
-    above.clear();
-    let mut part = Part::whole(map);
-    let mut record: Record = [0; RECORD_WORDS];
-    let (mut items, mut ends) = (0, 0u64);
-    loop {
-        // Each call lends the map and the buffer for its own length, and nothing is kept.
-        let refused = unsafe {
-            linked::ion_map_step(
-                map.as_ptr(),
-                map.len(),
-                part.start,
-                part.end,
-                part.at,
-                part.kind,
-                Limits::USUAL.annotations,
-                record.as_mut_ptr().cast(),
-                size_of_val(&record),
-            )
-        };
-        assert!(refused == 0, "the maps are good");
-        if record[0] == 0 {
-            match above.pop() {
-                Some(outer) => part = outer,
-                None => break,
-            }
-            continue;
-        }
-        items += 1;
-        ends = ends.wrapping_add(record[6]);
-        part.at = record[6] as usize;
-        if is_open(record[1]) {
-            above.push(part);
-            part = Part::body(&record);
-        }
-    }
+    let (above, mut ends) = (&mut room.parts, 0);
+    // The call lends the map and the room for its own length, and nothing is kept.
+    let items = unsafe {
+        linked::header_step(
+            map.as_ptr(),
+            map.len(),
+            &mut ends,
+            above.as_mut_ptr(),
+            above.len(),
+        )
+    };
     Met {
         items,
         ends: Some(ends),
@@ -217,44 +181,18 @@ fn single_steps(map: &[u8], room: &mut Room) -> Met {
 /// `batch` records a call; the bodies that a call hands out are put on a stack and read later.
 fn steps(map: &[u8], batch: usize, room: &mut Room) -> Met {
     let Room { records, parts, .. } = room;
-    let records = &mut records[..batch];
-    parts.clear();
-    parts.push(Part::whole(map));
-    let (mut items, mut ends) = (0, 0u64);
-    while let Some(part) = parts.pop() {
-        let mut count = 0;
-        let refused = unsafe {
-            linked::ion_map_steps(
-                map.as_ptr(),
-                map.len(),
-                part.start,
-                part.end,
-                part.at,
-                part.kind,
-                Limits::USUAL.annotations,
-                records.as_mut_ptr().cast(),
-                size_of_val(records),
-                &mut count,
-            )
-        };
-        assert!(refused == 0, "the maps are good");
-        let mut records = &records[..count as usize];
-        match records.split_last() {
-            Some((last, others)) if last[0] == 0 => records = others,
-            Some((last, _)) => parts.push(Part {
-                at: last[6] as usize,
-                ..part
-            }),
-            None => unreachable!("there is room for a record"),
-        }
-        items += records.len() as u64;
-        for record in records {
-            ends = ends.wrapping_add(record[6]);
-            if is_open(record[1]) {
-                parts.push(Part::body(record));
-            }
-        }
-    }
+    let (records, mut ends) = (&mut records[..batch], 0);
+    let items = unsafe {
+        linked::header_steps(
+            map.as_ptr(),
+            map.len(),
+            &mut ends,
+            records.as_mut_ptr().cast(),
+            records.len(),
+            parts.as_mut_ptr(),
+            parts.len(),
+        )
+    };
     Met {
         items,
         ends: Some(ends),
@@ -266,6 +204,48 @@ fn walk(map: &[u8]) -> Met {
     let items =
         unsafe { linked::ion_map_walked(map.as_ptr(), map.len(), u64::MAX, annotations, depth) };
     Met { items, ends: None }
+}
+
+// ===== Ours, by the crate in Rust =====
+
+/// The items of each part, a container's body before what follows it, by recursion.
+fn crate_items(map: &[u8]) -> Result<Met, ion_map::Refusal> {
+    let (mut items, mut ends) = (0, 0);
+    crate_part(map, ion_map::Part::stream(map), &mut items, &mut ends)?;
+    Ok(Met {
+        items,
+        ends: Some(ends),
+    })
+}
+
+fn crate_part(
+    map: &[u8],
+    part: ion_map::Part,
+    items: &mut u64,
+    ends: &mut u64,
+) -> Result<(), ion_map::Refusal> {
+    for item in ion_map::items(map, part) {
+        let item = item?;
+        *items += 1;
+        *ends = ends.wrapping_add(item.span().end as u64);
+        if let Some(body) = item.value().and_then(|value| value.part()) {
+            crate_part(map, body, items, ends)?;
+        }
+    }
+    Ok(())
+}
+
+fn crate_walk(map: &[u8]) -> Result<Met, ion_map::Refusal> {
+    let (mut items, mut ends) = (0, 0u64);
+    for met in ion_map::walk(map) {
+        let (_, item) = met?;
+        items += 1;
+        ends = ends.wrapping_add(item.span().end as u64);
+    }
+    Ok(Met {
+        items,
+        ends: Some(ends),
+    })
 }
 
 // ===== The Rust's =====
@@ -346,6 +326,16 @@ fn rust_fields(
 fn skip(map: &[u8]) -> Met {
     let mut ends = 0;
     let items = unsafe { linked::skip_count(map.as_ptr(), map.len(), &mut ends) };
+    Met {
+        items,
+        ends: Some(ends),
+    }
+}
+
+#[cfg(clang)]
+fn clang_skip(map: &[u8]) -> Met {
+    let mut ends = 0;
+    let items = unsafe { linked::clang_skip_count(map.as_ptr(), map.len(), &mut ends) };
     Met {
         items,
         ends: Some(ends),

@@ -1,4 +1,4 @@
-//! Our reader: the functions that `libmaps.a` exports, and the layer through which they are asked.
+//! Our reader: the functions that `libion_map.a` exports, and the layer through which they are asked.
 
 use oracle::asking::Limits;
 pub use oracle::RECORD_WORDS as WORDS;
