@@ -217,8 +217,10 @@ impl Value {
 }
 
 /// What a step hands out.
+// So laid out, a value and a field's value stand at the same place, and the variant's number is that of the record.
 #[derive(Clone, Debug, PartialEq, Eq, Hash)]
 #[non_exhaustive]
+#[repr(u8)]
 pub enum Item {
     /// Nothing is left in the part. Only a single step hands it out; the iterators stop instead.
     End {
@@ -231,10 +233,10 @@ pub enum Item {
     Value(Value),
     /// A value of a struct.
     Field {
-        /// Its field ID, a symbol's ID.
-        id: u64,
         /// The value; its span begins at the field ID.
         value: Value,
+        /// Its field ID, a symbol's ID.
+        id: u64,
     },
 }
 
