@@ -9,13 +9,14 @@
 PREFIX = /usr/local
 LIBDIR = $(PREFIX)/lib
 INCLUDEDIR = $(PREFIX)/include
-ARCHIVE = target/libion_map.a
+MADE = target/libion_map.a
+ARCHIVE = $(MADE)
 VERSION = $(shell sed -n 's/^.define ION_MAP_VERSION "\(.*\)"$$/\1/p' include/ion_map.h)
 
 all:
 	./archive
 
-$(ARCHIVE):
+$(MADE): include/ion_map.h $(wildcard crates/*/src/*.rt)
 	./archive
 
 install: $(ARCHIVE)

@@ -31,17 +31,18 @@ fn main() {
         let source = given.join(path);
         println!("cargo:rerun-if-changed={}", source.display());
         let bytes = fs::read(&source).unwrap_or_else(|error| {
-            panic!(
-                "{}: {error} (set ION_RUST to a checkout of ion-rust)",
+            fail(&format!(
+                "{}: {error} (set ION_RUST to a checkout of ion-rust, or run oracle/setup FOLDER)",
                 source.display()
-            )
+            ))
         });
         let found = hex(&sha256(&bytes));
-        assert!(
-            found == wanted,
-            "{}: sha256 is {found}, not {wanted}",
-            source.display()
-        );
+        if found != wanted {
+            fail(&format!(
+                "{} isn't that of the ion-rust that is compared with: its sha256 is {found}, not {wanted}",
+                source.display()
+            ));
+        }
         place(&tree.join(path), &bytes);
         report.push_str(&format!("{found}  {path}\n"));
     }
@@ -76,6 +77,12 @@ fn main() {
             link_reader(&here, &out, program);
         }
     }
+}
+
+/// Ends the build with a sentence.
+fn fail(why: &str) -> ! {
+    eprintln!("oracle: {why}");
+    std::process::exit(1);
 }
 
 /// The functions that the comparison calls.
