@@ -23,7 +23,10 @@ fn main() {
     compile(&compiler, "steps.c", &[], &out.join("steps.o"));
     compile(&compiler, "skip.c", &[], &out.join("skip.o"));
     if Command::new(CLANG).arg("--version").output().is_ok() {
-        let names = ["-Dskip_count=clang_skip_count", "-Dskip_records=clang_skip_records"];
+        let names = [
+            "-Dskip_count=clang_skip_count",
+            "-Dskip_records=clang_skip_records",
+        ];
         compile(CLANG, "skip.c", &names, &out.join("clang_skip.o"));
         println!("cargo:rustc-cfg=clang");
     }

@@ -139,7 +139,10 @@ fn best(measured: &[Measured], reader: Reader) -> f64 {
 
 fn is_ours(reader: Reader) -> bool {
     use Reader::*;
-    matches!(reader, Steps16 | Steps1024 | Step | Walk | CrateItems | CrateWalk)
+    matches!(
+        reader,
+        Steps16 | Steps1024 | Step | Walk | CrateItems | CrateWalk
+    )
 }
 
 type Made = (&'static str, fn(usize) -> Vec<u8>);
