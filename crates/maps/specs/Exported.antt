@@ -5,40 +5,19 @@ use mathlib.Core.List.{List}
 use lib.Dec.{ltb, eqb}
 use Rattle.numbers.specs.Outcome.{Outcome, pick, refuseIf, andThen}
 use Rattle.numbers.specs.Answers.{varUInt, varInt, int}
-use Rattle.framing.specs.Limits.{outOfRange, limited}
+use Rattle.framing.specs.Limits.{limited}
 use Rattle.framing.specs.Answers.{Annotated, readAnnotation}
 use Rattle.stepping.specs.Items.{Item}
 use Rattle.stepping.specs.Answers.{answerAt}
 use Rattle.stepping.specs.Kinds.{rulesOf}
-use Rattle.counting.specs.Counted.{unbegun, idsBegun}
-use Rattle.counting.specs.Bounded.{Bounded, reached, more, bounded}
 use Rattle.values.specs.Scalars.{valueIn}
 use Rattle.records.specs.FirstWords.{Entered, enter, Number, ofUnsigned, ofSigned, ofFixed}
-use Rattle.records.specs.Words.{words, moreWords}
 
 -- "Exported steps take slice, body start, body end, position" and the part's kind. 50: "parts or positions outside the slice, out of order, a part kind above
 -- 2"; what start, the position and the kind do not settle of it, the step says. By the change request A.9 68 comes before 50.
 unfoldable pub exportedStep : ℕ → List ℕ → ℕ → ℕ → ℕ → ℕ → Outcome Item
 exportedStep limit s start end position kind =
     limited limit (refuseIf (ltb position start) 50 0 (refuseIf (ltb 2 kind) 50 0 (answerAt limit (rulesOf kind) s position end)))
-
--- ---- the bounded step: by the change request A.8, with a largest number of pads; 68, then 50, then 67
-
-unfoldable pub exportedBounded : ℕ → ℕ → List ℕ → ℕ → ℕ → ℕ → ℕ → Bounded
-exportedBounded limit most s start end position kind =
-    pick (outOfRange limit) (reached (unbegun 68))
-    (pick (ltb position start) (reached (unbegun 50))
-    (pick (ltb 2 kind) (reached (unbegun 50))
-    (bounded limit most (rulesOf kind) s (record { at = position; end = end }))))
-
-abbrev pub boundedWords : Bounded → List ℕ
-boundedWords (reached r) = words (r .answer)
-boundedWords (more pads position) = moreWords pads position
-
--- ---- the count of field IDs: by the change request A.3 "how many IDs that step began to read", of a struct step, and 0 where it is refused with 68 or 50
-
-unfoldable pub exportedIds : ℕ → List ℕ → ℕ → ℕ → ℕ → ℕ
-exportedIds limit s start end position = pick (ltb position start) 0 (idsBegun limit s (record { at = position; end = end }))
 
 -- ---- the annotation step: over the bytes start..end
 

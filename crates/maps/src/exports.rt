@@ -7,25 +7,16 @@ ghost use Prim.Native.Nat.{ℕ, _≤_, _<_};
 ghost use lib.ListN.{length, take};
 ghost use Rattle.numbers.specs.Outcome.{refuses};
 ghost use Rattle.framing.specs.Limits.{outOfRange};
-ghost use Rattle.bodies.specs.Decimal.{decimal};
 ghost use Rattle.stepping.specs.Answers.{answerAt};
 ghost use Rattle.stepping.specs.Read.{itemRead};
 ghost use Rattle.values.specs.Scalars.{stepIn, readScalar, readWithValue};
-ghost use Rattle.values.specs.Timestamps.{readTimestamp};
 ghost use Rattle.walking.specs.Walk.{wholeWalk};
 ghost use Rattle.walking.specs.Calls.{itemsIn};
-ghost use Rattle.checking.specs.Check.{wholeCheck};
-ghost use Rattle.checking.specs.Read.{checkedRead};
-ghost use Rattle.records.specs.Buffer.{recordIn, returned, checkIn, checkReturned};
-ghost use Rattle.records.specs.Words.{words, annotationWords, bodyWords, readingWords, numberWords, decimalWords, timestampWords, checkWords};
+ghost use Rattle.records.specs.Buffer.{recordIn, returned};
+ghost use Rattle.records.specs.Words.{words, annotationWords, bodyWords, readingWords, numberWords};
 ghost use Rattle.maps.specs.Private.Inside.{ShortAt};
-ghost use Rattle.maps.specs.Exported.{exportedStep, exportedIds, exportedAnnotation, exportedBody, numberBy, exportedNumber};
+ghost use Rattle.maps.specs.Exported.{exportedStep, exportedAnnotation, exportedBody, numberBy, exportedNumber};
 use crate::inside;
-use bodies::decimal::read_decimal;
-use checking::check::Checked;
-use checking::check::check_map;
-use checking::item::Verdict;
-use counting::counted::ids_begun;
 use framing::annotations_iterator::read_annotation;
 use framing::binary_buffer::bare_value;
 use framing::binary_buffer::begins_value;
@@ -44,19 +35,13 @@ use numbers::var_int::VarInt;
 use numbers::var_uint::VarUInt;
 use records::buffer::RECORD_WORDS;
 use records::buffer::put_record;
-use records::check_record::CHECK_WORDS;
-use records::check_record::counts_words;
-use records::check_record::put_check;
-use records::check_record::refused_check_words;
 use records::words::annotation_words;
 use records::words::body_words;
-use records::words::decimal_words;
 use records::words::item_words;
 use records::words::number_words;
 use records::words::outside_words;
 use records::words::refused_words;
 use records::words::scalar_words;
-use records::words::timestamp_words;
 use stepping::cursor::Item;
 use stepping::cursor::Named;
 use stepping::cursor::Rules;
@@ -66,7 +51,6 @@ use stepping::cursor::read_name;
 use stepping::cursor::rules_of;
 use values::value::ValueRead;
 use values::value::open;
-use values::value::read_timestamp;
 use values::value::read_with_value;
 use values::value::value_in;
 use walking::walk::count_items;
@@ -152,23 +136,6 @@ pub extern "C" fn ion_map_step(
         out,
         item_words(step_by_kind(map, start, end, position, kind, limit)),
     )
-}
-
-// How many field IDs the struct step at `position` in the part start..end began to read; 0 where it is refused with 68 or 50.
-#[no_mangle]
-pub extern "C" fn ion_map_ids(
-    map: &[u8],
-    start: usize,
-    end: usize,
-    position: usize,
-    limit: usize,
-) -> u64
-    ensures { λ r. ⌜ r ≡ exportedIds limit (now (map .entry)) start end position ⌝ }
-{
-    if position < start {
-        return 0;
-    }
-    ids_begun(map, position, end, limit) as u64
 }
 
 // One annotation step over the bytes start..end.
@@ -329,53 +296,4 @@ pub extern "C" fn ion_map_walked(map: &[u8], most: u64, limit: usize, deepest: u
     ensures { λ r. ⌜ r ≡ itemsIn (take most (wholeWalk limit deepest (now (map .entry)))) ⌝ }
 {
     count_items(map, most, limit, deepest)
-}
-
-// Splits the decimal whose body is start..end.
-#[no_mangle]
-pub extern "C" fn ion_map_decimal(map: &[u8], start: usize, end: usize, out: &mut [u8]) -> u64
-    ensures { λ r. ⌜ r ≡ returned (now (out .entry)) (decimal (now (map .entry)) start end) ⌝ }
-    ensures { λ _. ⌜ now (out .exit) ≡ recordIn (decimalWords start (decimal (now (map .entry)) start end)) (now (out .entry)) ⌝ }
-{
-    put_record(out, decimal_words(start, read_decimal(map, start, end)))
-}
-
-// Reads the value at `position` of the part start..end, and what it says where it is a timestamp.
-#[no_mangle]
-pub extern "C" fn ion_map_timestamp(
-    map: &[u8],
-    start: usize,
-    end: usize,
-    position: usize,
-    limit: usize,
-    out: &mut [u8],
-) -> u64
-    ensures { λ r. ⌜ r ≡ returned (now (out .entry)) (readTimestamp limit (now (map .entry)) start end position) ⌝ }
-    ensures { λ _. ⌜ now (out .exit) ≡ recordIn (timestampWords (readTimestamp limit (now (map .entry)) start end position)) (now (out .entry)) ⌝ }
-{
-    put_record(
-        out,
-        timestamp_words(read_timestamp(map, start, end, position, limit)),
-    )
-}
-
-// The words of a check's answer.
-fn check_words(checked: Checked) -> [u64; CHECK_WORDS]
-    ensures { λ r. ⌜ r ≡ checkWords (checkedRead checked .outcome) ⌝ }
-{
-    let counts = checked.counts;
-    let verdict = checked.verdict;
-    match verdict {
-        Verdict::Accepted => counts_words(counts),
-        Verdict::Refused(refusal) => refused_check_words(refusal),
-    }
-}
-
-// Checks the whole map: every value's places, annotations and scalar, at every depth. Its record of sixteen words has the counts of what the map holds.
-#[no_mangle]
-pub extern "C" fn ion_map_check(map: &[u8], limit: usize, deepest: usize, out: &mut [u8]) -> u64
-    ensures { λ r. ⌜ r ≡ checkReturned (now (out .entry)) (wholeCheck limit deepest (now (map .entry))) ⌝ }
-    ensures { λ _. ⌜ now (out .exit) ≡ checkIn (checkWords (wholeCheck limit deepest (now (map .entry)))) (now (out .entry)) ⌝ }
-{
-    put_check(out, check_words(check_map(map, limit, deepest)))
 }

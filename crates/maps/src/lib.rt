@@ -2,10 +2,8 @@
 ghost use mathlib.Core.Path.{_≡_};
 ghost use Rattle.maps.specs.Private.Inside.{insideOf};
 
-pub mod bounded;
 pub mod exports;
 pub mod steps;
-pub mod symbol_texts;
 
 use stepping::cursor::LAST_KIND;
 pub use walking::walk;

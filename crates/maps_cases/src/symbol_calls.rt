@@ -1,7 +1,7 @@
 // Calls of the exported functions on symbols: what each returns, and what it leaves in its buffer.
-use maps::symbol_texts::ion_map_symbol_text;
-use maps::symbol_texts::ion_map_symbols;
-use maps::symbol_texts::ion_map_text;
+use additions::symbol_texts::ion_map_symbol_text;
+use additions::symbol_texts::ion_map_symbols;
+use additions::symbol_texts::ion_map_text;
 use questions::text::Line;
 use questions::text::find;
 use questions::text::hex;
