@@ -2,7 +2,9 @@ pub mod Nest
 pub mod Standing
 pub mod TileLocality
 pub mod ValueLocality
+pub mod SameTiles
 pub mod Overwriting
+pub mod OneBody
 pub mod Machine
 pub mod Values
 pub mod Entries

@@ -23,7 +23,8 @@ use Rattle.stepping.specs.Items.{Item as Answer, finish, marker, value, field}
 use Rattle.stepping.specs.Answers.{Stepped, stepOf}
 use Rattle.stepping.specs.Read.{itemRead, stepRead}
 use Rattle.stepping.specs.Runs.{cursor, Answers, Run, none, call}
-use Rattle.runs.specs.Reached.{Part, the-stream, inner, Handed, ReachedBody, of-value, of-pad, AnnotationRun, none as no-more, call as one-more, ByRules, EitherPart, EitherValue, Calls, SameAnswers}
+use Rattle.runs.specs.Reached.{Part, the-stream, inner, Handed, AnnotationRun, none as no-more, call as one-more, ByRules, EitherPart, Calls}
+use Rattle.runs.specs.Overwritten.{Site, ReachedSite, reached-value, reached-pad, ValueOutside, SameOutside}
 use Rattle.stepping.specs.declared.cursor.Cursor.{Cursor}
 use Rattle.stepping.specs.declared.cursor.Rules.{Rules}
 use Rattle.stepping.specs.declared.cursor.Rules.the-variants.{Stream, Sequence, Fields}
@@ -35,7 +36,8 @@ use Rattle.runs.proofs.Machine.{Answered}
 use Rattle.runs.proofs.Values.{num, parts, nth, choose}
 use Rattle.stepping.proofs.Tiling.{tiling}
 use Rattle.runs.proofs.Overwriting.{overwriting}
-use Rattle.runs.specs.Program.{Program, BytesRead, ByProgram, ProgramTiling, ProgramOverwriting, StepEnds, ProgramEnds}
+use Rattle.runs.proofs.OneBody.{Stands, by-rules, one-of-many}
+use Rattle.runs.specs.Program.{Program, BytesRead, ByProgram, ProgramTiling, ProgramOverwriting, ProgramOneBody, StepEnds, ProgramEnds}
 use Rattle.runs.proofs.Entries.{annotates, enters, reads, annotation-answers, entering-answers, reading-answers}
 use Rattle.stepping.proofs.cursor.Step.Laws.{lowered, lowers}
 use Rattle.stepping.proofs.cursor.Cursor.next_in_stream as in-stream
@@ -140,10 +142,6 @@ map-handed {ℓ} : {A : Rules → Cursor → Stepped → Type ℓ} {B : Rules �
 map-handed f {rules = rules} h =
     record { part = map-part f (h .part); calls = h .calls; run = map-run (f rules) (h .run); among = h .among }
 
-map-body {ℓ} : {A : Rules → Cursor → Stepped → Type ℓ} {B : Rules → Cursor → Stepped → Type 0} → ((rules : Rules) (c : Cursor) (r : Stepped) → A rules c r → B rules c r) → {limit : ℕ} {s : List ℕ} {lo₀ hi₀ b e : ℕ} → ReachedBody limit s A lo₀ hi₀ b e → ReachedBody limit s B lo₀ hi₀ b e
-map-body f (of-value handed of) = of-value (map-handed f handed) of
-map-body f (of-pad {rules} part run among) = of-pad (map-part f part) (map-run (f rules) run) among
-
 map-annotations {ℓ} : {A : ℕ → Outcome Annotated → Type ℓ} {B : ℕ → Outcome Annotated → Type 0} → ((at : ℕ) (r : Outcome Annotated) → A at r → B at r) → {at : ℕ} {rs : List (Outcome Annotated)} → AnnotationRun A at rs → AnnotationRun B at rs
 map-annotations f no-more = no-more
 map-annotations f (one-more {at} {r} a run) = one-more (f at r a) (map-annotations f run)
@@ -197,38 +195,60 @@ module _ {M : Type 1} (𝓤 : URA M) (H : Heap 𝓤) (𝓜 : Model 𝓤 H) (𝓖
   unfolding scalarPart
   bytes-read limit s lo hi at r p = p .2 ∙ ap (partOf (now s)) (reads 𝓤 H 𝓜 𝓖 κs limit s lo hi at (p .0) (p .1))
 
+  -- what the program's answers reach and hand out, they do by the rules
+  module _ (limit : ℕ) (s : RefT (List ℕ)) where
+    on : (rules : Rules) (c : Cursor) (r : Stepped) → Program 𝓤 H 𝓜 𝓖 κs limit rules s c r → Answers limit rules (now s) c r
+    on rules = answers limit rules s
+
+    by-program : Stands (ByProgram 𝓤 H 𝓜 𝓖 κs limit s)
+    by-program =
+        record {
+          value = λ rules lo hi rs i v k run m. by-rules limit (now s) .value rules lo hi rs i v k (map-run (on rules) run) m;
+          pad = λ rules lo hi rs p run m. by-rules limit (now s) .pad rules lo hi rs p (map-run (on rules) run) m;
+        }
+
+    site : {lo₀ hi₀ : ℕ} {x : Site} → ReachedSite limit (now s) (ByProgram 𝓤 H 𝓜 𝓖 κs limit s .step) lo₀ hi₀ x → ReachedSite limit (now s) (ByRules limit (now s) .step) lo₀ hi₀ x
+    site (reached-value h k) = reached-value (map-handed on h) k
+    site (reached-pad {rules} h) =
+        reached-pad (record { part = map-part on (h .part); calls = h .calls; run = map-run (on rules) (h .run); among = h .among })
+
   pub program-overwriting : ProgramOverwriting 𝓤 H 𝓜 𝓖 κs
-  program-overwriting limit s s' lo₀ hi₀ b e body agree =
+  program-overwriting limit s s' lo₀ hi₀ Chosen sites agree =
       record {
         steps = λ rules lo hi pt out rs rs' c. same .steps rules lo hi (part pt) out rs rs' (calls c);
         pads = λ rules lo hi pt out rs rs' c. same .pads rules lo hi (part pt) out rs rs' (calls c);
-        annotations = λ rules lo hi v h rs rs' n run run'.
-            same .annotations rules lo hi v (valued h) rs rs' n
+        annotations = λ rules lo hi v h bytes rs rs' n run run'.
+            same .annotations rules lo hi v (valued h) bytes rs rs' n
             (map-annotations (annotates 𝓤 H 𝓜 𝓖 κs s (v .descriptor)) run) (map-annotations (annotates 𝓤 H 𝓜 𝓖 κs s' (v .descriptor)) run');
+        identifiers = λ rules lo hi v h at bytes r r' a a'.
+            same .identifiers rules lo hi v (valued h) at bytes r r'
+            (annotates 𝓤 H 𝓜 𝓖 κs s (v .descriptor) at r a) (annotates 𝓤 H 𝓜 𝓖 κs s' (v .descriptor) at r' a');
+        kept = λ rules lo hi v h other. same .kept rules lo hi v (valued h) other;
         enterings = λ rules lo hi v h at entry r r' a a'.
             same .enterings rules lo hi v (valued h) at entry r r' (enters 𝓤 H 𝓜 𝓖 κs limit s lo hi at r a) (enters 𝓤 H 𝓜 𝓖 κs limit s' lo hi at r' a');
         readings = λ rules lo hi v h other at entry r r' a a'.
             same .readings rules lo hi v (valued h) other at entry r r' (reads 𝓤 H 𝓜 𝓖 κs limit s lo hi at r a) (reads 𝓤 H 𝓜 𝓖 κs limit s' lo hi at r' a');
         parts = λ rules lo hi v h other at entry r r' a a'.
             same .parts rules lo hi v (valued h) other at entry r r' (bytes-read limit s lo hi at r a) (bytes-read limit s' lo hi at r' a');
-        owner = λ rules lo hi pt i v k x y rs rs' c. same .owner rules lo hi (part pt) i v k x y rs rs' (calls c);
-        pad = λ rules lo hi pt p x y rs rs' c. same .pad rules lo hi (part pt) p x y rs rs' (calls c);
+        owner = λ rules lo hi pt i v k x rs rs' c. same .owner rules lo hi (part pt) i v k x rs rs' (calls c);
+        pad = λ rules lo hi pt p x rs rs' c. same .pad rules lo hi (part pt) p x rs rs' (calls c);
       }
     where
-      on : (rules : Rules) (c : Cursor) (r : Stepped) → Program 𝓤 H 𝓜 𝓖 κs limit rules s c r → Answers limit rules (now s) c r
-      on rules = answers limit rules s
+      same : SameOutside (ByRules limit (now s)) (ByRules limit (now s')) lo₀ hi₀ Chosen
+      same =
+          overwriting limit (now s) (now s') lo₀ hi₀ Chosen
+          (record { reached = λ x c. site limit s (sites .reached x c); noneInside = sites .noneInside }) agree .1
 
-      on' : (rules : Rules) (c : Cursor) (r : Stepped) → Program 𝓤 H 𝓜 𝓖 κs limit rules s' c r → Answers limit rules (now s') c r
-      on' rules = answers limit rules s'
+      part : {rules : Rules} {lo hi : ℕ} → EitherPart (ByProgram 𝓤 H 𝓜 𝓖 κs limit s) (ByProgram 𝓤 H 𝓜 𝓖 κs limit s') lo₀ hi₀ rules lo hi → EitherPart (ByRules limit (now s)) (ByRules limit (now s')) lo₀ hi₀ rules lo hi
+      part pt = either (map-part (on limit s)) (map-part (on limit s')) pt
 
-      same : SameAnswers (ByRules limit (now s)) (ByRules limit (now s')) lo₀ hi₀ b e
-      same = overwriting limit (now s) (now s') lo₀ hi₀ b e (map-body on body) agree
+      valued : {rules : Rules} {lo hi : ℕ} {v : Spans} → ValueOutside (ByProgram 𝓤 H 𝓜 𝓖 κs limit s) (ByProgram 𝓤 H 𝓜 𝓖 κs limit s') lo₀ hi₀ Chosen rules lo hi v → ValueOutside (ByRules limit (now s)) (ByRules limit (now s')) lo₀ hi₀ Chosen rules lo hi v
+      valued h = record { item = h .item; handed = either (map-handed (on limit s)) (map-handed (on limit s')) (h .handed); is = h .is; outside = h .outside }
 
-      part : {rules : Rules} {lo hi : ℕ} → EitherPart (ByProgram 𝓤 H 𝓜 𝓖 κs limit s) (ByProgram 𝓤 H 𝓜 𝓖 κs limit s') lo₀ hi₀ b e rules lo hi → EitherPart (ByRules limit (now s)) (ByRules limit (now s')) lo₀ hi₀ b e rules lo hi
-      part pt = either (map-part on) (map-part on') pt
+      calls : {rules : Rules} {lo hi : ℕ} {rs rs' : List Stepped} → Calls (ByProgram 𝓤 H 𝓜 𝓖 κs limit s) (ByProgram 𝓤 H 𝓜 𝓖 κs limit s') lo₀ hi₀ rules lo hi rs rs' → Calls (ByRules limit (now s)) (ByRules limit (now s')) lo₀ hi₀ rules lo hi rs rs'
+      calls {rules} c = record { many = c .many; run = map-run (on limit s rules) (c .run); run' = map-run (on limit s' rules) (c .run') }
 
-      valued : {rules : Rules} {lo hi : ℕ} {v : Spans} → EitherValue (ByProgram 𝓤 H 𝓜 𝓖 κs limit s) (ByProgram 𝓤 H 𝓜 𝓖 κs limit s') lo₀ hi₀ b e rules lo hi v → EitherValue (ByRules limit (now s)) (ByRules limit (now s')) lo₀ hi₀ b e rules lo hi v
-      valued h = record { item = h .item; handed = either (map-handed on) (map-handed on') (h .handed); is = h .is; outside = h .outside }
-
-      calls : {rules : Rules} {lo hi : ℕ} {rs rs' : List Stepped} → Calls (ByProgram 𝓤 H 𝓜 𝓖 κs limit s) (ByProgram 𝓤 H 𝓜 𝓖 κs limit s') lo₀ hi₀ b e rules lo hi rs rs' → Calls (ByRules limit (now s)) (ByRules limit (now s')) lo₀ hi₀ b e rules lo hi rs rs'
-      calls {rules} c = record { many = c .many; run = map-run (on rules) (c .run); run' = map-run (on' rules) (c .run') }
+  pub program-one-body : ProgramOneBody 𝓤 H 𝓜 𝓖 κs
+  program-one-body limit s s' lo₀ hi₀ b e =
+      one-of-many (ByProgram 𝓤 H 𝓜 𝓖 κs limit s) (ByProgram 𝓤 H 𝓜 𝓖 κs limit s') (by-program limit s) (by-program limit s') lo₀ hi₀
+      (program-overwriting limit s s' lo₀ hi₀)

@@ -8,26 +8,37 @@ use mathlib.Core.Logic.{_⊎_, ⊎-elim}
 use mathlib.Core.List.{List, _∷_, List·Memᴰ, List·Memᴰ·cases-cons}
 use Rattle.numbers.specs.Outcome.{Outcome, gives, refuses}
 use Rattle.framing.specs.Spans.{Spans}
-use Rattle.framing.proofs.Bounds.{value-in}
+use Rattle.numbers.proofs.Outcomes.{each-of}
+use Rattle.framing.proofs.Bounds.{Ordered, read-value-each}
 use Rattle.stepping.specs.Items.{Item, finish, marker, value, field, itemEnd, Pad}
 use Rattle.stepping.specs.Answers.{Tile, skip, hand, tileAt, Found, found, after, Stepped, stepOf}
 use Rattle.stepping.specs.Runs.{cursor, Answers, Run, none, call, handedOut, items}
-use Rattle.runs.specs.Reached.{ValueOf, a-value, a-field, Part, the-stream, inner, left, ReachedBody, of-value, of-pad}
+use Rattle.runs.specs.Reached.{ValueOf, a-value, a-field, itemStart, Part, the-stream, inner, Handed, left, padsAfter}
+use Rattle.runs.specs.Overwritten.{Site, ReachedSite, reached-value, reached-pad}
 use Rattle.stepping.specs.declared.cursor.Cursor.{Cursor}
 use Rattle.stepping.specs.declared.cursor.Rules.{Rules}
 use Rattle.stepping.specs.declared.cursor.Rules.the-variants.{Stream, Sequence}
 use Rattle.stepping.proofs.PadSkipping.{Skipping, at-end, at-pad, at-item, at-refusal, Finds, unranged, unfit, fit, finds}
-use Rattle.stepping.proofs.Places.{ValueIn, a-marker, a-value as value-in, a-field as field-in, TileIn, skip-in, hand-in, tile-in}
+use Rattle.stepping.proofs.Places.{a-marker, a-value as value-in, a-field as field-in, TileIn, skip-in, hand-in, tile-in}
 use Rattle.values.specs.Scalars.{isContainer, bodyRules}
 use Rattle.runs.proofs.Nest as nest
-use Rattle.runs.proofs.Nest.{Place, From, stay, on, Nest, Under}
+use Rattle.runs.proofs.Nest.{Place, Fits, From, stay, on, Nest, Under}
+use Rattle.runs.proofs.ValueLocality.{ValueStands, value-stands}
 
--- the body of a tile, its end, its rules, and whether it opens
+-- the place of a value; and of what has no annotations and does not open
 abbrev pub valuePlace : Spans → Place
-valuePlace v = record { body = v .body; end = v .end; rules = bodyRules v; opens = isContainer v }
+valuePlace v =
+    record {
+      annotations = v .annotations;
+      descriptor = v .descriptor;
+      body = v .body;
+      end = v .end;
+      rules = bodyRules v;
+      opens = isContainer v;
+    }
 
 abbrev pub closedPlace : ℕ → ℕ → Place
-closedPlace b e = record { body = b; end = e; rules = Sequence; opens = false }
+closedPlace b e = record { annotations = b; descriptor = b; body = b; end = e; rules = Sequence; opens = false }
 
 abbrev pub placeOf : Tile → Place
 placeOf (skip b e) = closedPlace b e
@@ -35,6 +46,10 @@ placeOf (hand (finish p)) = closedPlace p p
 placeOf (hand (marker a x y e)) = closedPlace e e
 placeOf (hand (value v)) = valuePlace v
 placeOf (hand (field id a v)) = valuePlace v
+
+-- the site of a tile that begins at a
+abbrev pub siteOf : ℕ → Place → Site
+siteOf a z = record { start = a; annotations = z .annotations; descriptor = z .descriptor; body = z .body; end = z .end }
 
 pub place-end : (i : Item) → placeOf (hand i) .end ≡ itemEnd i
 place-end (finish p) = refl
@@ -53,19 +68,30 @@ pub record Standing (limit : ℕ) (s : List ℕ) (rules : Rules) (hi p : ℕ) (x
   pub is : tileAt limit rules s p hi ≡ gives tile
   pub place : x ≡ placeOf tile
 
--- its body begins past p, and ends in the part
-value-in-place : {p hi : ℕ} {v : Spans} → ValueIn p hi v → (p < v .body) × (v .body ≤ v .end) × (v .end ≤ hi)
-value-in-place v = (omega (arith, v .low, v .bodied), v .ended, v .within)
+-- it lies in the part, past p
+value-fits : {limit : ℕ} {s : List ℕ} {p hi : ℕ} {i : Item} {v : Spans} → ValueStands limit s hi p i v → Fits hi p (valuePlace v)
+value-fits {limit} {s} {p} {hi} {v = v} w =
+    let o : Ordered (v .start) hi v = each-of (read-value-each limit s (v .start) hi) (w .read) in
+    record {
+      low = omega (arith, w .low, o .annotated);
+      annotated = o .described;
+      described = omega (arith, o .bodied);
+      begins = omega (arith, w .low, o .annotated, o .described, o .bodied);
+      order = o .ended;
+      within = o .within;
+    }
 
-in-place : {p hi : ℕ} {t : Tile} → TileIn p hi t → (p < placeOf t .body) × (placeOf t .body ≤ placeOf t .end) × (placeOf t .end ≤ hi)
-in-place (skip-in l m n) = (l, m, n)
-in-place (hand-in (a-marker l m)) = (l, omega arith, m)
-in-place (hand-in (value-in v)) = value-in-place v
-in-place (hand-in (field-in v)) = value-in-place v
+closed-fits : {p hi b e : ℕ} → p < b → b ≤ e → e ≤ hi → Fits hi p (closedPlace b e)
+closed-fits l m n = record { low = omega arith; annotated = omega arith; described = omega arith; begins = l; order = m; within = n }
 
-pub order : (limit : ℕ) (s : List ℕ) (rules : Rules) (hi p : ℕ) (x : Place) → Standing limit s rules hi p x → (p < x .body) × (x .body ≤ x .end) × (x .end ≤ hi)
-order limit s rules hi p x t =
-    subst (λ (y : Place). (p < y .body) × (y .body ≤ y .end) × (y .end ≤ hi)) (sym (t .place)) (in-place (tile-in limit rules s p hi (t .is)))
+tile-fits : (limit : ℕ) (s : List ℕ) (rules : Rules) {p hi : ℕ} {t : Tile} → TileIn p hi t → tileAt limit rules s p hi ≡ gives t → Fits hi p (placeOf t)
+tile-fits limit s rules (skip-in l m n) q = closed-fits l m n
+tile-fits limit s rules (hand-in (a-marker l m)) q = closed-fits l (omega arith) m
+tile-fits limit s rules {p} {hi} (hand-in (value-in v)) q = value-fits (value-stands limit rules s p hi a-value q)
+tile-fits limit s rules {p} {hi} (hand-in (field-in v)) q = value-fits (value-stands limit rules s p hi a-field q)
+
+pub order : (limit : ℕ) (s : List ℕ) (rules : Rules) (hi p : ℕ) (x : Place) → Standing limit s rules hi p x → Fits hi p x
+order limit s rules hi p x t = subst (Fits hi p) (sym (t .place)) (tile-fits limit s rules (tile-in limit rules s p hi (t .is)) (t .is))
 
 pub one : (limit : ℕ) (s : List ℕ) (rules : Rules) (hi p : ℕ) (x y : Place) → Standing limit s rules hi p x → Standing limit s rules hi p y → x ≡ y
 one limit s rules hi p x y t u =
@@ -205,7 +231,7 @@ module _ (limit : ℕ) (s : List ℕ) where
       go (unfit g h) m = elim m [ ]
       go (fit g l k w) m = skipping-pads rules (c .end) w m
 
-  -- ---- parts and bodies, as places below the stream
+  -- ---- parts, values and pads, as places below the stream
 
   pub item-standing : (rules : Rules) (c : Cursor) {i : Item} {v : Spans} → ValueOf i v → (w : ItemStands rules c i) → Standing limit s rules (c .end) (w .place) (valuePlace v)
   item-standing rules c {i} k w =
@@ -217,19 +243,52 @@ module _ (limit : ℕ) (s : List ℕ) where
       let w = item-stands rules run m in
       nest.inner (nested pt) (w .to) (item-standing rules (cursor lo hi) k w) o
 
-  pub under : {lo₀ hi₀ b e : ℕ} → ReachedBody limit s (λ r. Answers limit r s) lo₀ hi₀ b e → (a : ℕ) × Under (Standing limit s) a b e Stream lo₀ hi₀
-  under (of-value {rules} {lo} {hi} h k) =
-      let w = item-stands rules (h .run) (h .among) in
-      (w .place, nest.lift (Standing limit s) (nested (h .part)) (nest.here (w .to) (item-standing rules (cursor lo hi) k w) refl refl))
-  under (of-pad {rules} {lo} {hi} {rs} {p} pt run m) =
+  -- a tile of the part lo..hi, at a
+  pub record TileOf (rules : Rules) (lo hi a : ℕ) (z : Place) : Type 0 where
+    pub to : To rules hi lo a
+    pub stands : Standing limit s rules hi a z
+
+  -- it lies in the part
+  pub tile-span : {rules : Rules} {lo hi a : ℕ} {z : Place} → TileOf rules lo hi a z → (lo ≤ a) × Fits hi a z
+  tile-span {rules} {lo} {hi} {a} {z} t =
+      (nest.ahead (Standing limit s) (order limit s) (one limit s) (t .to), order limit s rules hi a z (t .stands))
+
+  -- a value that a run hands out begins where its item does
+  pub value-tile : (rules : Rules) {lo hi : ℕ} {rs : List Stepped} {i : Item} {v : Spans} → ValueOf i v → Run (Answers limit rules s) (cursor lo hi) rs → List·Memᴰ i (items rs) → TileOf rules lo hi (itemStart i) (valuePlace v)
+  value-tile rules {lo} {hi} {i = i} {v} k run m =
+      let w = item-stands rules run m in
+      let q : w .place ≡ itemStart i = sym (value-stands limit rules s (w .place) hi k (w .is) .starts) in
+      subst (λ (a : ℕ). TileOf rules lo hi a (valuePlace v)) q (record { to = w .to; stands = item-standing rules (cursor lo hi) k w })
+
+  pub pad-tile : (rules : Rules) {lo hi : ℕ} {rs : List Stepped} {p : Pad} → Run (Answers limit rules s) (cursor lo hi) rs → List·Memᴰ p (padsAfter limit rules s lo hi rs) → TileOf rules lo hi (p .start) (closedPlace (p .body) (p .end))
+  pad-tile rules {lo} {hi} {rs} {p} run m =
       let w = led rules run in
       let z = pad-stands rules (left (cursor lo hi) rs) m in
-      let to = from-there rules (cursor lo hi) (left (cursor lo hi) rs) (w .0) (w .1) (z .to) in
-      let t : Standing limit s rules hi (p .start) (closedPlace (p .body) (p .end))
-      = record {
-        tile = skip (p .body) (p .end);
-        before = omega (arith, z .before, w .0);
-        is = subst (λ (x : ℕ). tileAt limit rules s (p .start) x ≡ gives (skip (p .body) (p .end))) (w .0) (z .is);
-        place = refl;
-      } in
-      (p .start, nest.lift (Standing limit s) (nested pt) (nest.here to t refl refl))
+      record {
+        to = from-there rules (cursor lo hi) (left (cursor lo hi) rs) (w .0) (w .1) (z .to);
+        stands =
+            record {
+              tile = skip (p .body) (p .end);
+              before = omega (arith, z .before, w .0);
+              is = subst (λ (x : ℕ). tileAt limit rules s (p .start) x ≡ gives (skip (p .body) (p .end))) (w .0) (z .is);
+              place = refl;
+            };
+      }
+
+  -- the tile of a site
+  pub record SiteBelow (lo₀ hi₀ : ℕ) (x : Site) : Type 0 where
+    pub place : Place
+    pub below : Under (Standing limit s) (x .start) place Stream lo₀ hi₀
+    pub is : x ≡ siteOf (x .start) place
+
+  pub site-below : {lo₀ hi₀ : ℕ} {x : Site} → ReachedSite limit s (λ r. Answers limit r s) lo₀ hi₀ x → SiteBelow lo₀ hi₀ x
+  site-below (reached-value {rules} {v = v} h k) =
+      let t = value-tile rules k (h .run) (h .among) in
+      record { place = valuePlace v; below = nest.lift (Standing limit s) (nested (h .part)) (nest.here (t .to) (t .stands)); is = refl }
+  site-below (reached-pad {rules} {p = p} h) =
+      let t = pad-tile rules (h .run) (h .among) in
+      record {
+        place = closedPlace (p .body) (p .end);
+        below = nest.lift (Standing limit s) (nested (h .part)) (nest.here (t .to) (t .stands));
+        is = refl;
+      }

@@ -122,10 +122,12 @@ pub record Afresh (limit : ℕ) (s : List ℕ) (hi at : ℕ) (v : Spans) : Type 
   pub body : value .body ≡ v .body
   pub end : value .end ≡ v .end
   pub low : v .start ≤ at
+  -- what stands before its annotations is nothing, or stands before those of v
+  pub wrapper : (value .annotations ≤ at) ⊎ (value .annotations ≤ v .annotations)
 
 pub afresh : (limit : ℕ) (s : List ℕ) (hi at : ℕ) (v : Spans) → readValue limit s (v .start) hi ≡ gives v → EntryAt v at → Afresh limit s hi at v
 afresh limit s hi at v r (inl e) =
-    record { value = v; read = subst (λ (x : ℕ). readValue limit s x hi ≡ gives v) (sym e) r; byte = refl; descriptor = refl; body = refl; end = refl; low = omega arith }
+    record { value = v; read = subst (λ (x : ℕ). readValue limit s x hi ≡ gives v) (sym e) r; byte = refl; descriptor = refl; body = refl; end = refl; low = omega arith; wrapper = inr (omega arith) }
 afresh limit s hi at v r (inr e) = let b = values-sound limit s (v .start) hi v r in go (b .0) (b .1)
   where
     o : Ordered (v .start) hi v
@@ -134,7 +136,7 @@ afresh limit s hi at v r (inr e) = let b = values-sound limit s (v .start) hi v 
     go : (b : ValueBytes s (v .start) hi v) → Within limit b → Afresh limit s hi at v
     go (plain t) l =
         let q : v .start ≡ at = sym (e ∙ t .descriptor) in
-        record { value = v; read = subst (λ (x : ℕ). readValue limit s x hi ≡ gives v) q r; byte = refl; descriptor = refl; body = refl; end = refl; low = omega arith }
+        record { value = v; read = subst (λ (x : ℕ). readValue limit s x hi ≡ gives v) q r; byte = refl; descriptor = refl; body = refl; end = refl; low = omega arith; wrapper = inr (omega arith) }
     go (annotated w) l =
         record {
           value = w .inner;
@@ -144,6 +146,7 @@ afresh limit s hi at v r (inr e) = let b = values-sound limit s (v .start) hi v 
           body = sym (w .body);
           end = sym (w .ends);
           low = omega (arith, o .annotated, o .described);
+          wrapper = inl (omega (arith, w .value .annotations));
         }
 
 -- ---- the same scalar where the bodies are the same

@@ -1,4 +1,5 @@
 pub mod Reached
+pub mod Overwritten
 pub mod Theorems
 pub mod Machine
 pub mod Program

@@ -1,5 +1,5 @@
 -- The program's own answers: what the machine returned to calls of the six entries, and that each call ends. The theorems on runs, of these: `program-tiling`,
--- `program-overwriting` and `program-ends` of proofs/Program.antt. As a function's statement is, they are for every model of the machine.
+-- `program-overwriting`, `program-one-body` and `program-ends` of proofs/Program.antt. As a function's statement is, they are for every model of the machine.
 -- Assumes nothing.
 use Prim.Native.Nat.{ℕ}
 use mathlib.Core.Path.{_≡_}
@@ -43,6 +43,7 @@ use Rattle.values.proofs.value.read as reading
 use Rattle.values.proofs.value.read.Symbol as reading-symbol
 use Rattle.runs.specs.Machine as machine
 use Rattle.runs.specs.Reached.{ReachedBody, Agree, In, Entries, SameAnswers}
+use Rattle.runs.specs.Overwritten.{Site, Sites, Over, SameOutside}
 
 module _ {M : Type 1} (𝓤 : URA M) (H : Heap 𝓤) (𝓜 : Model 𝓤 H) (𝓖 : GhostRules 𝓤 H) (κs : Lfts 1) where
   -- the machine, called for the program's step of these rules with the cursor c on the slice s, in some memory in which they are passed, returned x
@@ -99,10 +100,18 @@ module _ {M : Type 1} (𝓤 : URA M) (H : Heap 𝓤) (𝓜 : Model 𝓤 H) (𝓖
       (limit : ℕ) (rules : Rules) (s : RefT (List ℕ)) (lo hi : ℕ) (rs : List Stepped)
       → Run (Program limit rules s) (cursor lo hi) rs → Tiled limit rules (now s) lo hi rs
 
-  -- Demand 3, second half, of the program: whatever the machine returned on two maps that are alike outside one reached body, in however many calls outside it,
-  -- is the same.
+  -- The change request A.14, of the program: whatever the machine returned on two maps that are alike but for the bodies and annotation bytes of any set of
+  -- reached values and pads, none inside another, in however many calls outside them, is the same.
   abbrev pub ProgramOverwriting : Type 1
   ProgramOverwriting =
+      (limit : ℕ) (s s' : RefT (List ℕ)) (lo₀ hi₀ : ℕ) (Chosen : Site → Type 0)
+      → Sites limit (now s) (ByProgram limit s .step) lo₀ hi₀ Chosen → Agree (now s) (now s') (Over Chosen)
+      → SameOutside (ByProgram limit s) (ByProgram limit s') lo₀ hi₀ Chosen
+
+  -- Demand 3, second half, of the program: whatever the machine returned on two maps that are alike outside one reached body, in however many calls outside it,
+  -- is the same.
+  abbrev pub ProgramOneBody : Type 1
+  ProgramOneBody =
       (limit : ℕ) (s s' : RefT (List ℕ)) (lo₀ hi₀ b e : ℕ)
       → ReachedBody limit (now s) (ByProgram limit s .step) lo₀ hi₀ b e → Agree (now s) (now s') (In b e)
       → SameAnswers (ByProgram limit s) (ByProgram limit s') lo₀ hi₀ b e

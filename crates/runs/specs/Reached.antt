@@ -122,17 +122,18 @@ ByRules limit s =
       bytes = λ lo hi at r. r ≡ scalarPart limit s lo hi at;
     }
 
--- Two maps E and E' with the stream lo₀..hi₀, and a body b..e. A part that is reached in either map, and a value that is handed out in either, with the item
--- that it is.
-module _ {ℓ} (E E' : Entries {ℓ}) (lo₀ hi₀ b e : ℕ) where
+-- Two maps E and E' with the stream lo₀..hi₀.
+module _ {ℓ} (E E' : Entries {ℓ}) (lo₀ hi₀ : ℕ) where
+  -- a part that is reached in either map
   abbrev pub EitherPart : Rules → ℕ → ℕ → Type ℓ
   EitherPart rules lo hi = Part (E .step) lo₀ hi₀ rules lo hi ⊎ Part (E' .step) lo₀ hi₀ rules lo hi
 
-  pub record EitherValue (rules : Rules) (lo hi : ℕ) (v : Spans) : Type ℓ where
+  -- a value that is handed out in either, with the item that it is, where that lies outside
+  pub record HandedOutside (Out : ℕ → ℕ → Type 0) (rules : Rules) (lo hi : ℕ) (v : Spans) : Type ℓ where
     pub item : Item
     pub handed : Handed (E .step) lo₀ hi₀ rules lo hi item ⊎ Handed (E' .step) lo₀ hi₀ rules lo hi item
     pub is : ValueOf item v
-    pub outside : Outside b e (itemStart item) (itemEnd item)
+    pub outside : Out (itemStart item) (itemEnd item)
 
   -- "Both maps get the same calls, with the same arguments beside map and cursor": as many step calls, from the start of the part lo..hi on
   pub record Calls (rules : Rules) (lo hi : ℕ) (rs rs' : List Stepped) : Type ℓ where
@@ -140,27 +141,32 @@ module _ {ℓ} (E E' : Entries {ℓ}) (lo₀ hi₀ b e : ℕ) where
     pub run : Run (E .step rules) (cursor lo hi) rs
     pub run' : Run (E' .step rules) (cursor lo hi) rs'
 
-  -- The same answers outside the body: to step calls on a part that "neither is that body nor lies in it", with the pads that the next call skips; to
-  -- annotation steps on a value that does not lie in the body, "the owner's included"; to stepping in likewise, "the owner counts as outside"; to the scalar
-  -- reading, with the bytes of its part, of a value that "neither owns the body nor lies in it". And what was overwritten keeps its span: in both maps its
-  -- owner is handed out by as many calls, and so is a pad skipped.
-  pub record SameAnswers : Type ℓ where
-    pub steps : (rules : Rules) (lo hi : ℕ) → EitherPart rules lo hi → Outside b e lo hi
-        → (rs rs' : List Stepped) → Calls rules lo hi rs rs' → rs ≡ rs'
-    pub pads : (rules : Rules) (lo hi : ℕ) → EitherPart rules lo hi → Outside b e lo hi
-        → (rs rs' : List Stepped) → Calls rules lo hi rs rs'
-        → padsAfter (E .limit) rules (E .map) lo hi rs ≡ padsAfter (E' .limit) rules (E' .map) lo hi rs'
-    pub annotations : (rules : Rules) (lo hi : ℕ) (v : Spans) → EitherValue rules lo hi v → (rs rs' : List (Outcome Annotated)) → length rs ≡ length rs'
-        → AnnotationRun (E .annotation (v .descriptor)) (v .annotations) rs → AnnotationRun (E' .annotation (v .descriptor)) (v .annotations) rs'
-        → rs ≡ rs'
-    pub enterings : (rules : Rules) (lo hi : ℕ) (v : Spans) → EitherValue rules lo hi v → (at : ℕ) → EntryAt v at
-        → (r r' : Outcome Opened) → E .entering lo hi at r → E' .entering lo hi at r' → r ≡ r'
-    pub readings : (rules : Rules) (lo hi : ℕ) (v : Spans) → EitherValue rules lo hi v → NotOwner b e v → (at : ℕ) → EntryAt v at
-        → (r r' : Outcome Scalar) → E .reading lo hi at r → E' .reading lo hi at r' → r ≡ r'
-    pub parts : (rules : Rules) (lo hi : ℕ) (v : Spans) → EitherValue rules lo hi v → NotOwner b e v → (at : ℕ) → EntryAt v at
-        → (r r' : List ℕ) → E .bytes lo hi at r → E' .bytes lo hi at r' → r ≡ r'
-    pub owner : (rules : Rules) (lo hi : ℕ) → EitherPart rules lo hi → (i : Item) (v : Spans) → ValueOf i v → v .body ≡ b → v .end ≡ e
-        → (rs rs' : List Stepped) → Calls rules lo hi rs rs' → Iff (List·Memᴰ i (items rs)) (List·Memᴰ i (items rs'))
-    pub pad : (rules : Rules) (lo hi : ℕ) → EitherPart rules lo hi → (p : Pad) → p .body ≡ b → p .end ≡ e
-        → (rs rs' : List Stepped) → Calls rules lo hi rs rs'
-        → Iff (List·Memᴰ p (padsAfter (E .limit) rules (E .map) lo hi rs)) (List·Memᴰ p (padsAfter (E' .limit) rules (E' .map) lo hi rs'))
+  -- and a body b..e
+  module _ (b e : ℕ) where
+    abbrev pub EitherValue : Rules → ℕ → ℕ → Spans → Type ℓ
+    EitherValue = HandedOutside (Outside b e)
+
+    -- The same answers outside the body: to step calls on a part that "neither is that body nor lies in it", with the pads that the next call skips; to
+    -- annotation steps on a value that does not lie in the body, "the owner's included"; to stepping in likewise, "the owner counts as outside"; to the scalar
+    -- reading, with the bytes of its part, of a value that "neither owns the body nor lies in it". And what was overwritten keeps its span: in both maps its
+    -- owner is handed out by as many calls, and so is a pad skipped.
+    pub record SameAnswers : Type ℓ where
+      pub steps : (rules : Rules) (lo hi : ℕ) → EitherPart rules lo hi → Outside b e lo hi
+          → (rs rs' : List Stepped) → Calls rules lo hi rs rs' → rs ≡ rs'
+      pub pads : (rules : Rules) (lo hi : ℕ) → EitherPart rules lo hi → Outside b e lo hi
+          → (rs rs' : List Stepped) → Calls rules lo hi rs rs'
+          → padsAfter (E .limit) rules (E .map) lo hi rs ≡ padsAfter (E' .limit) rules (E' .map) lo hi rs'
+      pub annotations : (rules : Rules) (lo hi : ℕ) (v : Spans) → EitherValue rules lo hi v → (rs rs' : List (Outcome Annotated)) → length rs ≡ length rs'
+          → AnnotationRun (E .annotation (v .descriptor)) (v .annotations) rs → AnnotationRun (E' .annotation (v .descriptor)) (v .annotations) rs'
+          → rs ≡ rs'
+      pub enterings : (rules : Rules) (lo hi : ℕ) (v : Spans) → EitherValue rules lo hi v → (at : ℕ) → EntryAt v at
+          → (r r' : Outcome Opened) → E .entering lo hi at r → E' .entering lo hi at r' → r ≡ r'
+      pub readings : (rules : Rules) (lo hi : ℕ) (v : Spans) → EitherValue rules lo hi v → NotOwner b e v → (at : ℕ) → EntryAt v at
+          → (r r' : Outcome Scalar) → E .reading lo hi at r → E' .reading lo hi at r' → r ≡ r'
+      pub parts : (rules : Rules) (lo hi : ℕ) (v : Spans) → EitherValue rules lo hi v → NotOwner b e v → (at : ℕ) → EntryAt v at
+          → (r r' : List ℕ) → E .bytes lo hi at r → E' .bytes lo hi at r' → r ≡ r'
+      pub owner : (rules : Rules) (lo hi : ℕ) → EitherPart rules lo hi → (i : Item) (v : Spans) → ValueOf i v → v .body ≡ b → v .end ≡ e
+          → (rs rs' : List Stepped) → Calls rules lo hi rs rs' → Iff (List·Memᴰ i (items rs)) (List·Memᴰ i (items rs'))
+      pub pad : (rules : Rules) (lo hi : ℕ) → EitherPart rules lo hi → (p : Pad) → p .body ≡ b → p .end ≡ e
+          → (rs rs' : List Stepped) → Calls rules lo hi rs rs'
+          → Iff (List·Memᴰ p (padsAfter (E .limit) rules (E .map) lo hi rs)) (List·Memᴰ p (padsAfter (E' .limit) rules (E' .map) lo hi rs'))
