@@ -4,7 +4,7 @@
 -- Assumes nothing.
 use Prim.Native.Nat.{ℕ, _≤_, _<_}
 use native.Mathlib.Omega.{arith}
-use borrow.Author.Tests.{le-ltb}
+use borrow.Author.Tests.{le-ltb, ltb-true, ltb-false}
 use mathlib.Core.Path.{_≡_, refl, _∙_, sym, ap, subst}
 use mathlib.Core.Bool.{true, false, true≢false}
 use mathlib.Core.Logic.{_⊎_, inl, inr, ⊎-elim}
@@ -21,7 +21,7 @@ use Rattle.framing.specs.Spans.{Spans}
 use Rattle.framing.specs.Answers.{Annotated, readValue}
 use Rattle.framing.proofs.Locality.{value-given-local, annotation-local}
 use Rattle.stepping.specs.Items.{Item, itemEnd, Pad}
-use Rattle.stepping.specs.Answers.{Tile, tileAt, Found, Stepped}
+use Rattle.stepping.specs.Answers.{Tile, tileAt, Found, found, Stepped}
 use Rattle.stepping.specs.Runs.{cursor, Answers, Run, items}
 use Rattle.stepping.specs.declared.cursor.Cursor.{Cursor}
 use Rattle.stepping.specs.declared.cursor.Rules.{Rules}
@@ -134,6 +134,9 @@ module _ (limit : ℕ) (s s' : List ℕ) (lo₀ hi₀ : ℕ) (Chosen : Site → 
 
     -- ---- a run on the other map
 
+    pub found-same : (c : Cursor) → c .end ≡ hi → To limit s rules hi lo (c .at) → found limit rules s c ≡ found limit rules s' c
+    found-same c q g = cursor-over limit s s' (agree .long) rules lo hi tile-over c q g
+
     pub over : {rs : List Stepped} → Run (Answers limit rules s) (cursor lo hi) rs → Run (Answers limit rules s') (cursor lo hi) rs
     over run = run-over limit s s' (agree .long) rules lo hi tile-over refl stay run
 
@@ -141,18 +144,17 @@ module _ (limit : ℕ) (s s' : List ℕ) (lo₀ hi₀ : ℕ) (Chosen : Site → 
     pub pads-same : {rs : List Stepped} → Run (Answers limit rules s) (cursor lo hi) rs → padsAfter limit rules s lo hi rs ≡ padsAfter limit rules s' lo hi rs
     pads-same {rs} run =
         let w = led limit s rules run in
-        ap (λ (f : Found). f .pads) (cursor-over limit s s' (agree .long) rules lo hi tile-over (left (cursor lo hi) rs) (w .0) (w .1))
-
-    -- a tile of the part lies in none of them
-    pub tile-out : {p : ℕ} {y : Place} → TileOf limit s rules lo hi p y → OutsideAll Chosen p (y .end)
-    tile-out {p} {y} t x c w =
-        let f = fitted x c in
-        let b = bounded x c in
-        let g : Fits hi p y = order limit s rules hi p y (t .stands) in
-        let h = header-in {i = p} t x c (omega arith) (omega arith) (omega arith) (omega arith) .0 in
-        omega arith
+        ap (λ (f : Found). f .pads) (found-same (left (cursor lo hi) rs) (w .0) (w .1))
 
   -- ---- what is reached on the one map is reached on the other
+
+  -- the stream is outside them
+  pub stream-out : OutsideAll Chosen lo₀ hi₀
+  stream-out x c w =
+      let u = nest.fits-part (Standing limit s) (order limit s) (one limit s) (below x c .below) in
+      let f = u .1 in
+      let b = bounded x c in
+      omega arith
 
   -- a part that has something outside them is outside them
   part-of : {lo hi a e : ℕ} → lo ≤ a → e ≤ hi → OutsideAll Chosen a e → OutsideAll Chosen lo hi
@@ -200,13 +202,37 @@ module _ (limit : ℕ) (s s' : List ℕ) (lo₀ hi₀ : ℕ) (Chosen : Site → 
   ends-with a-value = refl
   ends-with a-field = refl
 
-  module _ {rules : Rules} {lo hi : ℕ} {i : Item} {v : Spans} (h : Handed (Rule limit s) lo₀ hi₀ rules lo hi i) (k : ValueOf i v) (out : OutsideAll Chosen (itemStart i) (itemEnd i)) where
+  module _ {rules : Rules} {lo hi : ℕ} {i : Item} {v : Spans} (h : Handed (Rule limit s) lo₀ hi₀ rules lo hi i) (k : ValueOf i v) where
     tile : TileOf limit s rules lo hi (itemStart i) (valuePlace v)
     tile = value-tile limit s rules k (h .run) (h .among)
 
-    span : (lo ≤ itemStart i) × Fits hi (itemStart i) (valuePlace v)
+    pub span : (lo ≤ itemStart i) × Fits hi (itemStart i) (valuePlace v)
     span = tile-span limit s tile
 
+    -- of a part outside them it lies in none of them
+    pub value-out : OutsideAll Chosen lo hi → OutsideAll Chosen (itemStart i) (itemEnd i)
+    value-out out x c w =
+        let f = fitted x c in
+        let b = bounded x c in
+        let g = span .1 in
+        let e = ends-with k in
+        let q = header-in (h .part) out {i = itemStart i} tile x c (omega arith) (omega arith) (omega arith) (omega arith) .0 in
+        omega arith
+
+    -- and one of them with its body is it
+    pub site-is : OutsideAll Chosen lo hi → (x : Site) → Chosen x → v .body ≡ x .body → v .end ≡ x .end → x ≡ valueSite i v
+    site-is out x c p q =
+        let f : Fits hi₀ (x .start) (below x c .place) = fitted x c in
+        let b : Bounds x (below x c .place) = bounded x c in
+        let g : Fits hi (itemStart i) (valuePlace v) = span .1 in
+        by-case (ltb (itemStart i) (x .start))
+        (λ l. is (header-in (h .part) out {i = x .start} tile x c (omega (arith, ltb-true (itemStart i) (x .start) l)) (omega arith) (omega arith) (omega arith)))
+        (λ l. is (header-in (h .part) out {i = itemStart i} tile x c (omega arith) (omega arith) (ltb-false (itemStart i) (x .start) l) (omega arith)))
+      where
+        is : (itemStart i ≡ x .start) × (valuePlace v ≡ below x c .place) → x ≡ valueSite i v
+        is w = below x c .is ∙ sym (ap (λ (z : Place). siteOf (x .start) z) (w .1)) ∙ sym (ap (λ (a : ℕ). siteOf a (valuePlace v)) (w .0))
+
+  module _ {rules : Rules} {lo hi : ℕ} {i : Item} {v : Spans} (h : Handed (Rule limit s) lo₀ hi₀ rules lo hi i) (k : ValueOf i v) (out : OutsideAll Chosen (itemStart i) (itemEnd i)) where
     there : ValueStands limit s hi (itemStart i) i v
     there =
         let w = item-stands limit s rules (h .run) (h .among) in
@@ -214,10 +240,10 @@ module _ (limit : ℕ) (s s' : List ℕ) (lo₀ hi₀ : ℕ) (Chosen : Site → 
         subst (λ (p : ℕ). ValueStands limit s hi p i v) (sym (u .starts)) u
 
     pub part-out : OutsideAll Chosen lo hi
-    part-out = let f = span .1 in part-of (span .0) (omega (arith, ends-with k, f .within)) out
+    part-out = let f = span h k .1 in part-of (span h k .0) (omega (arith, ends-with k, f .within)) out
 
     head-same : SameHead limit s s' (agree .long) (itemStart i) (valuePlace v)
-    head-same = same-head (h .part) part-out tile
+    head-same = same-head (h .part) part-out (tile h k)
 
     -- one of them with this value's place is none that it is not
     not-it : NoneOf Chosen v → (x : Site) (c : Chosen x) → valuePlace v ≡ below x c .place → ⊥
@@ -229,10 +255,10 @@ module _ (limit : ℕ) (s s' : List ℕ) (lo₀ hi₀ : ℕ) (Chosen : Site → 
 
     pub annotations-kept : NoneOf Chosen v → Same s s' (v .annotations) (v .descriptor)
     annotations-kept other j m n =
-        let f = span .1 in
+        let f = span h k .1 in
         agree .same j (λ o.
         let w = span-over o in
-        not-it other (w .0) (w .1) (header-in (h .part) part-out tile (w .0) (w .1) (omega (arith, f .low)) (omega (arith, f .described)) (w .2) (w .3) .1))
+        not-it other (w .0) (w .1) (header-in (h .part) part-out (tile h k) (w .0) (w .1) (omega (arith, f .low)) (omega (arith, f .described)) (w .2) (w .3) .1))
 
     -- so does the body, where it has none of them inside
     pub body-kept : NoneOf Chosen v → ((x : Site) → Chosen x → isContainer v ≡ true → v .body ≤ x .start → x .end ≤ v .end → ⊥) → Same s s' (v .body) (v .end)
@@ -241,7 +267,7 @@ module _ (limit : ℕ) (s s' : List ℕ) (lo₀ hi₀ : ℕ) (Chosen : Site → 
         let w = span-over o in
         let b = bounded (w .0) (w .1) in
         not-it other (w .0) (w .1)
-        (nest.in-body (Standing limit s) (order limit s) (one limit s) (lies (w .0) (w .1) (h .part)) (tile .to) (tile .stands)
+        (nest.in-body (Standing limit s) (order limit s) (one limit s) (lies (w .0) (w .1) (h .part)) (tile h k .to) (tile h k .stands)
         (λ z. out (w .0) (w .1) (omega arith, omega (arith, ends-with k))) (λ q l r. free (w .0) (w .1) q l (omega arith)) m n (w .2) (omega arith) .1))
 
     -- framed afresh
@@ -262,7 +288,7 @@ module _ (limit : ℕ) (s s' : List ℕ) (lo₀ hi₀ : ℕ) (Chosen : Site → 
           .0
 
       past-start : ltb at lo ≡ false
-      past-start = le-ltb at lo (omega (arith, span .0, there .low, again .low))
+      past-start = le-ltb at lo (omega (arith, span h k .0, there .low, again .low))
 
       pub enters-same : stepIn limit s lo hi at ≡ stepIn limit s' lo hi at
       unfolding stepIn valueIn
