@@ -1,0 +1,3 @@
+pub mod SameSteps
+pub mod SameBytes
+pub mod TextsStay
