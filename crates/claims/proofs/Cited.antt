@@ -33,8 +33,10 @@ use Rattle.checking.proofs.Walked.{checks-walk, accepted-walk, refused-walk, fi
 use Rattle.checking.proofs.Holding.{counts-held}
 use Rattle.checking.proofs.Baking.{baking}
 use Rattle.checking.proofs.Moving.{items-alike}
-use Rattle.runs.proofs.Overwriting.{still-reached}
-use Rattle.runs.proofs.Program.{program-ends, program-tiling, program-overwriting}
+use Rattle.runs.proofs.Overwriting.{overwriting}
+use Rattle.runs.proofs.OneBody.{still-reached}
+use Rattle.runs.proofs.Program.{program-ends, program-tiling, program-overwriting, program-one-body}
+use Rattle.overwriting.proofs.TextsStay.{texts-stay}
 use Rattle.records.proofs.FirstBytes.{first-bytes}
 use Rattle.maps.proofs.RunsOfCalls.{runs-of-calls}
 use Rattle.maps.proofs.RecordsBegin.{records-begin}
@@ -48,10 +50,13 @@ module _ (M : Type 1) (𝓤 : URA M) (H : Heap 𝓤) (𝓜 : Model 𝓤 H) (𝓖
   whole-runs =
       record {
         tiled = program-tiling 𝓤 H 𝓜 𝓖 κs;
-        overwritten = program-overwriting 𝓤 H 𝓜 𝓖 κs;
+        overwritten = program-one-body 𝓤 H 𝓜 𝓖 κs;
         ends = program-ends 𝓤 H 𝓜 𝓖 κs;
         exist = runs;
         reached = still-reached;
+        manyOverwritten = program-overwriting 𝓤 H 𝓜 𝓖 κs;
+        manyReached = overwriting;
+        textsStay = texts-stay;
         exported = runs-of-calls;
         boundedTiled = bounded-tiling;
         boundedExist = bounded-runs;

@@ -23,8 +23,9 @@ use Rattle.walking.specs.Theorems.{Exact, NeverOutside, LimitsRange, DepthBound
 use Rattle.checking.specs.Theorems.{ChecksWalk, AcceptedWalk, RefusedWalk, FirstRefusal, CountsHeld}
 use Rattle.checking.specs.Unrefused.{Baking}
 use Rattle.checking.specs.Moved.{ItemsAlike}
-use Rattle.runs.specs.Theorems.{StillReached}
-use Rattle.runs.specs.Program.{ProgramEnds, ProgramTiling, ProgramOverwriting}
+use Rattle.runs.specs.Theorems.{Overwriting, StillReached}
+use Rattle.runs.specs.Program.{ProgramEnds, ProgramTiling, ProgramOverwriting, ProgramOneBody}
+use Rattle.overwriting.specs.TextsStay.{TextsStay}
 use Rattle.records.specs.Theorems.{FirstBytes}
 use Rattle.maps.specs.Theorems.{RunsOfCalls, RecordsBegin}
 
@@ -46,11 +47,18 @@ module _ (M : Type 1) (𝓤 : URA M) (H : Heap 𝓤) (𝓜 : Model 𝓤 H) (𝓖
   pub record WholeRuns : Type 1 where
     pub tiled : ProgramTiling 𝓤 H 𝓜 𝓖 κs
     -- "Overwrite one reached body: every run, annotation step, stepping in and scalar reading outside it answers the same", and its own span stays.
-    pub overwritten : ProgramOverwriting 𝓤 H 𝓜 𝓖 κs
+    pub overwritten : ProgramOneBody 𝓤 H 𝓜 𝓖 κs
     -- The calls of the program end, there are runs of every length, and what was overwritten is reached on the second map too: nothing is said of nothing.
     pub ends : ProgramEnds 𝓤 H 𝓜 𝓖 κs
     pub exist : RunsExist
     pub reached : StillReached
+    -- By the change request A.14, of "any set of reached values and pads, none inside another", with "their bodies, and annotation bytes where there are any"
+    -- overwritten: "each reached step and scalar reading outside them, stay the same; annotation IDs stay where their bytes did", of the program; "Spans at all
+    -- of them" stay, in that they are reached on the second map too; and "An ID's text may move only" after an overwritten table, or what lies in one or may be
+    -- one. The theorem on one body is a case of it.
+    pub manyOverwritten : ProgramOverwriting 𝓤 H 𝓜 𝓖 κs
+    pub manyReached : Overwriting
+    pub textsStay : TextsStay
     -- The exported function of many steps makes such a run.
     pub exported : RunsOfCalls
     -- Runs of bounded steps tile the part likewise, by the rules, and exist.
