@@ -35,6 +35,7 @@ use Rattle.checking.proofs.Baking.{baking}
 use Rattle.checking.proofs.Moving.{items-alike}
 use Rattle.runs.proofs.Overwriting.{overwriting}
 use Rattle.runs.proofs.OneBody.{still-reached}
+use Rattle.runs.proofs.PartSets.{parts-are-sets}
 use Rattle.runs.proofs.Program.{program-ends, program-tiling, program-overwriting, program-one-body}
 use Rattle.overwriting.proofs.TextsStay.{texts-stay}
 use Rattle.records.proofs.FirstBytes.{first-bytes}
@@ -57,6 +58,7 @@ module _ (M : Type 1) (𝓤 : URA M) (H : Heap 𝓤) (𝓜 : Model 𝓤 H) (𝓖
         manyOverwritten = program-overwriting 𝓤 H 𝓜 𝓖 κs;
         manyReached = overwriting;
         textsStay = texts-stay;
+        partsAreSets = parts-are-sets;
         exported = runs-of-calls;
         boundedTiled = bounded-tiling;
         boundedExist = bounded-runs;

@@ -138,14 +138,14 @@ module _ (limit : ℕ) (s s' : List ℕ) (lo₀ hi₀ : ℕ) (Chosen : Site → 
 
     table-same : isTable s v ≡ isTable s' v
     table-same =
-        ⊎-elim (λ e. ⊎-elim (λ e'. e ∙ sym e') other (told s' h' (λ x c l t. quiet x c l (inr t)) (isTable s' v) refl)) other
-        (told s h (λ x c l t. quiet x c l (inl t)) (isTable s v) refl)
+        ⊎-elim (λ e. ⊎-elim (λ e'. e ∙ sym e') other (told s' h' (λ x c l t. quiet x c (omega arith) (inr t)) (isTable s' v) refl)) other
+        (told s h (λ x c l t. quiet x c (omega arith) (inl t)) (isTable s v) refl)
 
     -- a table has none of them inside, so that its bytes stayed
     bytes-kept : isTable s v ≡ gives true → Same s s' (v .body) (v .end)
     bytes-kept q =
         body-kept limit s s' lo₀ hi₀ Chosen sites agree h a-value (value-out limit s s' lo₀ hi₀ Chosen sites agree h a-value out)
-        (⊎-elim (λ e. absurd (let z : true ≡ false = cc in true≢false z)) (λ free. free) (told s h (λ x c l t. quiet x c l (inl t)) (gives true) q)) (λ x c _ l m.
+        (⊎-elim (λ e. absurd (let z : true ≡ false = cc in true≢false z)) (λ free. free) (told s h (λ x c l t. quiet x c (omega arith) (inl t)) (gives true) q)) (λ x c _ l m.
         let f = span limit s s' lo₀ hi₀ Chosen sites agree h a-value .1 in
         quiet x c (omega arith) (inl (in-table h q (omega (arith, f .begins)) m)))
 

@@ -5,6 +5,7 @@ pub mod ValueLocality
 pub mod SameTiles
 pub mod Overwriting
 pub mod OneBody
+pub mod PartSets
 pub mod Machine
 pub mod Values
 pub mod Entries

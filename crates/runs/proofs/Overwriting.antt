@@ -162,7 +162,7 @@ module _ (limit : ℕ) (s s' : List ℕ) (lo₀ hi₀ : ℕ) (Chosen : Site → 
 
   -- and so is one that has one of them
   holder : (x : Site) → Chosen x → {lo hi : ℕ} → lo ≤ x .start → x .end ≤ hi → OutsideAll Chosen lo hi
-  holder x c l m = part-of l m (λ y d w. sites .noneInside y x d c w)
+  holder x c l m = part-of l m (λ y d w. sites .noneInside y x d c (omega arith, omega arith))
 
   pub reaches : {rules : Rules} {lo hi : ℕ} → Part (Rule limit s) lo₀ hi₀ rules lo hi → OutsideAll Chosen lo hi → Part (Rule limit s') lo₀ hi₀ rules lo hi
   reaches the-stream out = the-stream

@@ -54,6 +54,12 @@ pub record Sites {ℓ} (limit : ℕ) (s : List ℕ) (step : Rules → Cursor →
   pub reached : (x : Site) → Chosen x → ReachedSite limit s step lo₀ hi₀ x
   pub noneInside : (x y : Site) → Chosen x → Chosen y → Outside (x .body) (x .end) (y .start) (y .end)
 
+-- a value or a pad of the reached part lo..hi
+pub data OfPart (limit : ℕ) (s : List ℕ) (lo₀ hi₀ : ℕ) (rules : Rules) (lo hi : ℕ) : Site → Type 0 where
+  its-value : {i : Item} {v : Spans}
+      → Handed (ByRules limit s .step) lo₀ hi₀ rules lo hi i → ValueOf i v → OfPart limit s lo₀ hi₀ rules lo hi (valueSite i v)
+  its-pad : {p : Pad} → Skipped limit s (ByRules limit s .step) lo₀ hi₀ rules lo hi p → OfPart limit s lo₀ hi₀ rules lo hi (padSite p)
+
 -- "overwrite their bodies, and annotation bytes where there are any, lengths kept": the positions whose bytes may change
 abbrev pub InBody : Site → ℕ → Type 0
 InBody x i = In (x .body) (x .end) i
