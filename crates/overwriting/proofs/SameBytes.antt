@@ -1,26 +1,25 @@
 -- On two maps of one length that have the same bytes in a symbol table, its list is the same and lies in it; and on two with the same bytes in a list, so is an
 -- entry's text.
 -- Assumes nothing.
-use Prim.Native.Nat.{ℕ, _-_, _≤_, _<_}
+use Prim.Native.Nat.{ℕ, _≤_}
 use native.Mathlib.Omega.{arith}
 use mathlib.Core.Path.{_≡_, refl, ap}
-use mathlib.Core.Bool.{true, false, not}
+use mathlib.Core.Bool.{false, not}
 use mathlib.Core.List.{List}
 use lib.ListN.{length}
-use lib.Dec.{ltb, eqb}
-use Rattle.numbers.specs.Outcome.{Outcome, gives, pick, andThen}
+use lib.Dec.{eqb}
+use Rattle.numbers.specs.Outcome.{gives}
 use Rattle.numbers.specs.Bytes.{Same}
-use Rattle.numbers.proofs.Outcomes.{by-test, Each, given, refused, each-refuse, each-pick, pick-same}
+use Rattle.numbers.proofs.Outcomes.{by-test, Each, given, refused, each-refuse, each-pick}
 use Rattle.bodies.proofs.Rows.{utf8-local}
 use Rattle.bodies.specs.Utf8.{utf8}
 use Rattle.framing.specs.Spans.{Spans}
 use Rattle.stepping.specs.Items.{Item, finish, marker, value, field}
-use Rattle.stepping.specs.Answers.{Found, found, stepOf, answerAt}
+use Rattle.stepping.specs.Answers.{Found, stepOf, answerAt}
 use Rattle.stepping.specs.Runs.{cursor}
 use Rattle.stepping.specs.declared.cursor.Rules.{Rules}
 use Rattle.stepping.specs.declared.cursor.Rules.the-variants.{Sequence, Fields}
-use Rattle.symbols.specs.Turns.{Turn, over, further, stepAll}
-use Rattle.symbols.specs.Text.{isTyped, Own, no-list, listed, listOf, SymbolsField, onField, ownList, table, Text, unknown, own, system, systemText, entryText, onEntry, ownText, textIn}
+use Rattle.symbols.specs.Text.{isTyped, Own, no-list, listed, listOf, SymbolsField, onField, ownList, table, Text, unknown, own, system, entryText, onEntry, ownText}
 use Rattle.symbols.proofs.Answered.{Met, ValueMet, a-value, a-field, met}
 use Rattle.runs.proofs.Nest as nest
 use Rattle.runs.proofs.Nest.{stay}
@@ -91,9 +90,10 @@ module _ (limit : ℕ) (s s' : List ℕ) (long : length s ≡ length s') (b e : 
   entry-same : (at : ℕ) (v : Spans) → b ≤ at → ValueMet s at e v → (entryText s v ≡ entryText s' v) × Each (TextIn b e) (entryText s v)
   unfolding entryText
   entry-same at v l m =
-      let low : b ≤ v .body = omega (arith, m .starts, m .header) in
-      (rw (utf8-local s s' (v .body) (v .end) long (λ i x y. same i (omega arith) (omega (arith, m .fits)))),
-      each-pick (isTyped 8 v) (λ _. each-refuse (not (utf8 s (v .body) (v .end))) 36 (v .descriptor) (λ _. given (own-in low (m .fits)))) (λ _. given nowhere))
+      let low : b ≤ v .body = omega (arith, m .starts, m .header) in (
+        rw (utf8-local s s' (v .body) (v .end) long (λ i x y. same i (omega arith) (omega (arith, m .fits)))),
+        each-pick (isTyped 8 v) (λ _. each-refuse (not (utf8 s (v .body) (v .end))) 36 (v .descriptor) (λ _. given (own-in low (m .fits)))) (λ _. given nowhere),
+      )
 
   on-entry : (at n : ℕ) (i : Item) → b ≤ at → Met s at e (gives i) → Alike (λ n. b ≤ n) (λ n. Unit {0}) (TextIn b e) (onEntry s n i) (onEntry s' n i)
   unfolding onEntry

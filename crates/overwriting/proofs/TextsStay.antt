@@ -1,7 +1,7 @@
 -- `texts-stay`: along the stream's steps, which are the same on both maps, each top-level value before the place is a table on both or on none, since where one
 -- of the two readings isn't "no table" the value is none of those overwritten; so the same table rules, with the same bytes, or none.
 -- Assumes nothing.
-use Prim.Native.Nat.{ℕ, _-_, _≤_, _<_}
+use Prim.Native.Nat.{ℕ, _-_, _≤_}
 use native.Mathlib.Omega.{arith}
 use borrow.Author.Tests.{ltb-false}
 use mathlib.Core.Path.{_≡_, refl, _∙_, sym, ap, subst}
@@ -10,7 +10,7 @@ use mathlib.Core.Logic.{_⊎_, inl, inr, ⊎-elim}
 use mathlib.Core.List.{List, [], _∷_, List·Memᴰ, List·Memᴰ·head, List·Memᴰ·tail}
 use lib.ListN.{length}
 use lib.Dec.{ltb, eqb}
-use Rattle.numbers.specs.Outcome.{Outcome, gives, refuses, pick, andThen}
+use Rattle.numbers.specs.Outcome.{Outcome, gives, refuses, pick}
 use Rattle.numbers.specs.Bytes.{Same, part}
 use Rattle.numbers.proofs.Outcomes.{Each, given, refused, each-refuse, each-within, each-then, each-pick, each-of, each-map, by-test, refuse-same, then-same, pick-same}
 use Rattle.numbers.proofs.Parts.{part-same}
@@ -19,23 +19,23 @@ use Rattle.framing.specs.Limits.{outOfRange}
 use Rattle.framing.specs.Spans.{Spans}
 use Rattle.framing.proofs.Locality.{annotation-local}
 use Rattle.stepping.specs.Items.{Item, finish, marker, value, field, itemEnd}
-use Rattle.stepping.specs.Answers.{Found, found, after, Stepped, stepOf, answerAt}
+use Rattle.stepping.specs.Answers.{Found, after, Stepped, stepOf, answerAt}
 use Rattle.stepping.specs.Leaving.{isLast}
 use Rattle.stepping.specs.Runs.{cursor, Answers, Run, none, call, handedOut, items}
 use Rattle.stepping.specs.declared.cursor.Cursor.{Cursor}
 use Rattle.stepping.specs.declared.cursor.Rules.the-variants.{Stream}
 use Rattle.symbols.specs.SystemTexts.{systemBytes, sameBytes}
-use Rattle.symbols.specs.Turns.{Turn, over, further}
+use Rattle.symbols.specs.Turns.{Turn}
 use Rattle.symbols.specs.Text.{isTable, Ruling, system-alone, table, tabled, onStream, rulingAt, Own, no-list, listed, ownList, Text, unknown, own, system, systemText, ownText, textIn, symbolsAt, textOf, textBytes, textPart}
 use Rattle.symbols.specs.TextTheorems.{TextTold, in-map}
 use Rattle.symbols.proofs.Told.{text-each}
-use Rattle.runs.specs.Reached.{ValueOf, a-value, Part, the-stream, Handed, Agree, ByRules}
+use Rattle.runs.specs.Reached.{a-value, the-stream, Handed, Agree, ByRules}
 use Rattle.runs.specs.Overwritten.{Site, valueSite, Sites, Over, OutsideAll, NoneOf}
 use Rattle.runs.proofs.Nest as nest
 use Rattle.runs.proofs.Nest.{stay}
 use Rattle.runs.proofs.Standing.{Standing, To, called}
 use Rattle.runs.proofs.Overwriting.{found-same, stream-out, hands, span, value-out, site-is, annotations-kept, body-kept}
-use Rattle.overwriting.specs.TextsStay.{TopLevel, Tells, in-table, unreadable, Quiet, SameTexts, TextsStay}
+use Rattle.overwriting.specs.TextsStay.{TopLevel, Tells, in-table, unreadable, Quiet, TextsStay}
 use Rattle.overwriting.proofs.SameSteps.{Alike, both-over, both-further, alike-pick, all-same}
 use Rattle.overwriting.proofs.SameBytes.{ListIn, without, listed-in, TextIn, nowhere, of-system, own-in, list-same, text-same}
 
@@ -233,13 +233,14 @@ module _ (limit : ℕ) (s s' lent : List ℕ) (lo₀ hi₀ : ℕ) (Chosen : Site
   unfolding symbolsAt
   symbols-same =
       let long : length s ≡ length s' = agree .long in
-      let w = ruling-same limit s s' lo₀ hi₀ Chosen sites agree place quiet in
-      (refuse-same (not (sameBytes lent systemBytes)) 66 0 (λ _.
-      refuse-same (outOfRange limit) 68 0 (λ _.
-      within-local s s' lo₀ place long (λ _ _. within-local s s' place hi₀ long (λ _ _. then-same (w .1) (w .0) (λ r k. lists limit s s' long k .0))))),
-      each-refuse (not (sameBytes lent systemBytes)) 66 0 (λ _.
-      each-refuse (outOfRange limit) 68 0 (λ _.
-      each-within s lo₀ place (λ _ _. each-within s place hi₀ (λ _ _. each-then (w .1) (λ r k. lists limit s s' long k .1))))))
+      let w = ruling-same limit s s' lo₀ hi₀ Chosen sites agree place quiet in (
+        refuse-same (not (sameBytes lent systemBytes)) 66 0 (λ _.
+            refuse-same (outOfRange limit) 68 0 (λ _.
+            within-local s s' lo₀ place long (λ _ _. within-local s s' place hi₀ long (λ _ _. then-same (w .1) (w .0) (λ r k. lists limit s s' long k .0))))),
+        each-refuse (not (sameBytes lent systemBytes)) 66 0 (λ _.
+            each-refuse (outOfRange limit) 68 0 (λ _.
+            each-within s lo₀ place (λ _ _. each-within s place hi₀ (λ _ _. each-then (w .1) (λ r k. lists limit s s' long k .1))))),
+      )
 
   text-of-same : (id : ℕ) → (textOf limit s lent lo₀ hi₀ place id ≡ textOf limit s' lent lo₀ hi₀ place id) × Each (TextKept s s') (textOf limit s lent lo₀ hi₀ place id)
   unfolding textOf

@@ -5,7 +5,7 @@ use Prim.Native.Nat.{ℕ, _≤_, _<_}
 use native.Mathlib.Omega.{arith}
 use borrow.Author.Tests.{eqb-true, eqb-false}
 use mathlib.Core.Path.{_≡_, refl, sym, ap, subst}
-use mathlib.Core.Logic.{_⊎_, ⊎-elim}
+use mathlib.Core.Logic.{⊎-elim}
 use mathlib.Core.List.{List, List·Memᴰ}
 use lib.Dec.{eqb}
 use Rattle.numbers.specs.Bytes.{Same}
@@ -15,7 +15,7 @@ use Rattle.stepping.specs.Items.{Item, Pad}
 use Rattle.stepping.specs.Answers.{Stepped}
 use Rattle.stepping.specs.Runs.{cursor, Run, items}
 use Rattle.stepping.specs.declared.cursor.Rules.{Rules}
-use Rattle.runs.specs.Reached.{ValueOf, itemStart, Handed, padsAfter, ReachedBody, of-value, of-pad, Agree, In, Outside, NotOwner, Entries, ByRules, Iff, EitherPart, HandedOutside, Calls, EitherValue, SameAnswers}
+use Rattle.runs.specs.Reached.{ValueOf, itemStart, padsAfter, ReachedBody, of-value, of-pad, Agree, In, Outside, NotOwner, Entries, ByRules, EitherValue, SameAnswers}
 use Rattle.runs.specs.Overwritten.{Site, valueSite, padSite, ReachedSite, reached-value, reached-pad, Sites, Over, in-body, OutsideAll, NoneOf, ValueOutside, SameOutside}
 use Rattle.runs.specs.Theorems.{OneBody, StillReached}
 use Rattle.runs.proofs.Nest.{Fits}
@@ -104,12 +104,14 @@ module _ {ℓ} (E E' : Entries {ℓ}) (here : Stands E) (here' : Stands E') (lo�
           enterings = λ rules lo hi v h. same .enterings rules lo hi v (outside h);
           readings = λ rules lo hi v h other. same .readings rules lo hi v (outside h) (others v other);
           parts = λ rules lo hi v h other. same .parts rules lo hi v (outside h) (others v other);
-          owner = λ rules lo hi pt i v k b e rs rs' c.
-              (λ m. subst (λ (l : List Stepped). List·Memᴰ i (items l)) (same .steps rules lo hi pt (owner-out E here rules lo hi rs i v k b e (c .run) m) rs rs' c) m,
-              λ m. subst (λ (l : List Stepped). List·Memᴰ i (items l)) (sym (same .steps rules lo hi pt (owner-out E' here' rules lo hi rs' i v k b e (c .run') m) rs rs' c)) m);
-          pad = λ rules lo hi pt p b e rs rs' c.
-              (λ m. subst (List·Memᴰ p) (same .pads rules lo hi pt (pad-out E here rules lo hi rs p b e (c .run) m) rs rs' c) m,
-              λ m. subst (List·Memᴰ p) (sym (same .pads rules lo hi pt (pad-out E' here' rules lo hi rs' p b e (c .run') m) rs rs' c)) m);
+          owner = λ rules lo hi pt i v k b e rs rs' c. (
+            λ m. subst (λ (l : List Stepped). List·Memᴰ i (items l)) (same .steps rules lo hi pt (owner-out E here rules lo hi rs i v k b e (c .run) m) rs rs' c) m,
+            λ m. subst (λ (l : List Stepped). List·Memᴰ i (items l)) (sym (same .steps rules lo hi pt (owner-out E' here' rules lo hi rs' i v k b e (c .run') m) rs rs' c)) m,
+          );
+          pad = λ rules lo hi pt p b e rs rs' c. (
+            λ m. subst (List·Memᴰ p) (same .pads rules lo hi pt (pad-out E here rules lo hi rs p b e (c .run) m) rs rs' c) m,
+            λ m. subst (List·Memᴰ p) (sym (same .pads rules lo hi pt (pad-out E' here' rules lo hi rs' p b e (c .run') m) rs rs' c)) m,
+          );
         }
 
   -- a body is that of a site

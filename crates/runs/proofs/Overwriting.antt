@@ -7,18 +7,16 @@ use native.Mathlib.Omega.{arith}
 use borrow.Author.Tests.{le-ltb, ltb-true, ltb-false}
 use mathlib.Core.Path.{_≡_, refl, _∙_, sym, ap, subst}
 use mathlib.Core.Bool.{true, false, true≢false}
-use mathlib.Core.Logic.{_⊎_, inl, inr, ⊎-elim}
+use mathlib.Core.Logic.{inl, inr, ⊎-elim}
 use mathlib.Core.List.{List, List·Memᴰ}
-use lib.ListN.{length}
 use lib.Dec.{ltb}
 use Rattle.numbers.specs.Outcome.{Outcome, gives, refuses}
 use Rattle.numbers.specs.Bytes.{Same}
-use Rattle.numbers.specs.Answers.{lookedTo}
 use Rattle.numbers.proofs.Outcomes.{by-case, each-of}
 use Rattle.numbers.proofs.Parts.{part-none}
 use Rattle.framing.specs.Limits.{outOfRange}
 use Rattle.framing.specs.Spans.{Spans}
-use Rattle.framing.specs.Answers.{Annotated, readValue}
+use Rattle.framing.specs.Answers.{readValue}
 use Rattle.framing.proofs.Locality.{value-given-local, annotation-local}
 use Rattle.stepping.specs.Items.{Item, itemEnd, Pad}
 use Rattle.stepping.specs.Answers.{Tile, tileAt, Found, found, Stepped}
@@ -27,12 +25,12 @@ use Rattle.stepping.specs.declared.cursor.Cursor.{Cursor}
 use Rattle.stepping.specs.declared.cursor.Rules.{Rules}
 use Rattle.values.specs.Scalars.{valueIn, isContainer, stepIn, scalarOf, readScalar, partOf, scalarPart}
 use Rattle.values.proofs.Reading.{value-in-slice}
-use Rattle.runs.specs.Reached.{ValueOf, a-value, a-field, itemStart, Part, the-stream, inner, Handed, left, padsAfter, Agree, In, Outside, EntryAt, AnnotationRun, ByRules, Iff, EitherPart, Calls}
-use Rattle.runs.specs.Overwritten.{Site, valueSite, padSite, Skipped, ReachedSite, reached-value, reached-pad, Sites, InBody, InAnnotations, Over, in-body, in-annotations, OutsideAll, NoneOf, SameReached}
+use Rattle.runs.specs.Reached.{ValueOf, a-value, a-field, itemStart, Part, the-stream, inner, Handed, left, padsAfter, Agree, In, EntryAt, ByRules, Iff, EitherPart, Calls}
+use Rattle.runs.specs.Overwritten.{Site, valueSite, padSite, Skipped, ReachedSite, reached-value, reached-pad, Sites, Over, in-body, in-annotations, OutsideAll, NoneOf, SameReached}
 use Rattle.runs.specs.Theorems.{Overwriting}
 use Rattle.runs.proofs.Nest as nest
 use Rattle.runs.proofs.Nest.{Place, Fits, stay, Clear, rest, head, own, Placed}
-use Rattle.runs.proofs.Standing.{Standing, valuePlace, siteOf, placeOf, order, one, To, ItemStands, item-stands, led, nested, TileOf, tile-span, value-tile, pad-tile, SiteBelow, site-below}
+use Rattle.runs.proofs.Standing.{Standing, valuePlace, siteOf, order, one, To, item-stands, led, nested, TileOf, tile-span, value-tile, pad-tile, SiteBelow, site-below}
 use Rattle.runs.proofs.TileLocality.{tile-local, SameHead, tile-given-local}
 use Rattle.runs.proofs.ValueLocality.{ValueStands, value-stands, Afresh, afresh, scalar-local, scalar-part-local, container-read}
 use Rattle.runs.proofs.SameTiles.{cursor-over, run-over, alone, annotations-alone}
@@ -365,44 +363,47 @@ module _ (limit : ℕ) (s s' : List ℕ) (lo₀ hi₀ : ℕ) (Chosen : Site → 
       holder limit s s' lo₀ hi₀ Chosen sites agree (padSite p) c (w .0) (w .1 .within)
 
   owner-alike : (rules : Rules) (lo hi : ℕ) → Reached rules lo hi → (i : Item) (v : Spans) → ValueOf i v → Chosen (valueSite i v) → (rs rs' : List Stepped) → Called rules lo hi rs rs' → Iff (List·Memᴰ i (items rs)) (List·Memᴰ i (items rs'))
-  owner-alike rules lo hi pt i v k x rs rs' c =
-      (λ m. subst (λ (l : List Stepped). List·Memᴰ i (items l)) (steps-alike rules lo hi pt (value-held s rules lo hi k x (c .run) m) rs rs' c) m,
-      λ m. subst (λ (l : List Stepped). List·Memᴰ i (items l)) (sym (steps-alike rules lo hi pt (value-held s' rules lo hi k x (c .run') m) rs rs' c)) m)
+  owner-alike rules lo hi pt i v k x rs rs' c = (
+    λ m. subst (λ (l : List Stepped). List·Memᴰ i (items l)) (steps-alike rules lo hi pt (value-held s rules lo hi k x (c .run) m) rs rs' c) m,
+    λ m. subst (λ (l : List Stepped). List·Memᴰ i (items l)) (sym (steps-alike rules lo hi pt (value-held s' rules lo hi k x (c .run') m) rs rs' c)) m,
+  )
 
   pad-alike : (rules : Rules) (lo hi : ℕ) → Reached rules lo hi → (p : Pad) → Chosen (padSite p) → (rs rs' : List Stepped) → Called rules lo hi rs rs' → Iff (List·Memᴰ p (padsAfter limit rules s lo hi rs)) (List·Memᴰ p (padsAfter limit rules s' lo hi rs'))
-  pad-alike rules lo hi pt p x rs rs' c =
-      (λ m. subst (List·Memᴰ p) (pads-alike rules lo hi pt (pad-held s rules lo hi x (c .run) m) rs rs' c) m,
-      λ m. subst (List·Memᴰ p) (sym (pads-alike rules lo hi pt (pad-held s' rules lo hi x (c .run') m) rs rs' c)) m)
+  pad-alike rules lo hi pt p x rs rs' c = (
+    λ m. subst (List·Memᴰ p) (pads-alike rules lo hi pt (pad-held s rules lo hi x (c .run) m) rs rs' c) m,
+    λ m. subst (List·Memᴰ p) (sym (pads-alike rules lo hi pt (pad-held s' rules lo hi x (c .run') m) rs rs' c)) m,
+  )
 
 pub overwriting : Overwriting
 overwriting limit s s' lo₀ hi₀ Chosen sites agree =
     let sites″ = sites' limit s s' lo₀ hi₀ Chosen sites agree in
-    let agree″ = agree' limit s s' lo₀ hi₀ Chosen sites agree in
-    (same-reached limit s s' lo₀ hi₀ Chosen sites agree,
-    record {
-      steps = steps-alike limit s s' lo₀ hi₀ Chosen sites agree;
-      pads = pads-alike limit s s' lo₀ hi₀ Chosen sites agree;
-      annotations = λ rules lo hi v h same rs rs' n run run'.
-          annotations-alone limit s s' (v .annotations) (v .descriptor) (agree .long) same (omega arith) run run' n;
-      identifiers = λ rules lo hi v h at same r r' a a'. a ∙ annotation-local s s' (agree .long) at (v .descriptor) same ∙ sym a';
-      kept = λ rules lo hi v h other.
-          ⊎-elim (λ x. annotations-kept limit s s' lo₀ hi₀ Chosen sites agree x (h .is) (h .outside) other)
-          (λ x j m n. sym (annotations-kept limit s' s lo₀ hi₀ Chosen sites″ agree″ x (h .is) (h .outside) other j m n)) (h .handed);
-      enterings = λ rules lo hi v h at entry r r' a a'.
-          a
-          ∙ ⊎-elim (λ x. enters-same limit s s' lo₀ hi₀ Chosen sites agree x (h .is) (h .outside) at entry)
-          (λ x. sym (enters-same limit s' s lo₀ hi₀ Chosen sites″ agree″ x (h .is) (h .outside) at entry)) (h .handed)
-          ∙ sym a';
-      readings = λ rules lo hi v h other at entry r r' a a'.
-          a
-          ∙ ⊎-elim (λ x. reads-same limit s s' lo₀ hi₀ Chosen sites agree x (h .is) (h .outside) at entry other .0)
-          (λ x. sym (reads-same limit s' s lo₀ hi₀ Chosen sites″ agree″ x (h .is) (h .outside) at entry other .0)) (h .handed)
-          ∙ sym a';
-      parts = λ rules lo hi v h other at entry r r' a a'.
-          a
-          ∙ ⊎-elim (λ x. reads-same limit s s' lo₀ hi₀ Chosen sites agree x (h .is) (h .outside) at entry other .1)
-          (λ x. sym (reads-same limit s' s lo₀ hi₀ Chosen sites″ agree″ x (h .is) (h .outside) at entry other .1)) (h .handed)
-          ∙ sym a';
-      owner = owner-alike limit s s' lo₀ hi₀ Chosen sites agree;
-      pad = pad-alike limit s s' lo₀ hi₀ Chosen sites agree;
-    })
+    let agree″ = agree' limit s s' lo₀ hi₀ Chosen sites agree in (
+      same-reached limit s s' lo₀ hi₀ Chosen sites agree,
+      record {
+        steps = steps-alike limit s s' lo₀ hi₀ Chosen sites agree;
+        pads = pads-alike limit s s' lo₀ hi₀ Chosen sites agree;
+        annotations = λ rules lo hi v h same rs rs' n run run'.
+            annotations-alone limit s s' (v .annotations) (v .descriptor) (agree .long) same (omega arith) run run' n;
+        identifiers = λ rules lo hi v h at same r r' a a'. a ∙ annotation-local s s' (agree .long) at (v .descriptor) same ∙ sym a';
+        kept = λ rules lo hi v h other.
+            ⊎-elim (λ x. annotations-kept limit s s' lo₀ hi₀ Chosen sites agree x (h .is) (h .outside) other)
+            (λ x j m n. sym (annotations-kept limit s' s lo₀ hi₀ Chosen sites″ agree″ x (h .is) (h .outside) other j m n)) (h .handed);
+        enterings = λ rules lo hi v h at entry r r' a a'.
+            a
+            ∙ ⊎-elim (λ x. enters-same limit s s' lo₀ hi₀ Chosen sites agree x (h .is) (h .outside) at entry)
+            (λ x. sym (enters-same limit s' s lo₀ hi₀ Chosen sites″ agree″ x (h .is) (h .outside) at entry)) (h .handed)
+            ∙ sym a';
+        readings = λ rules lo hi v h other at entry r r' a a'.
+            a
+            ∙ ⊎-elim (λ x. reads-same limit s s' lo₀ hi₀ Chosen sites agree x (h .is) (h .outside) at entry other .0)
+            (λ x. sym (reads-same limit s' s lo₀ hi₀ Chosen sites″ agree″ x (h .is) (h .outside) at entry other .0)) (h .handed)
+            ∙ sym a';
+        parts = λ rules lo hi v h other at entry r r' a a'.
+            a
+            ∙ ⊎-elim (λ x. reads-same limit s s' lo₀ hi₀ Chosen sites agree x (h .is) (h .outside) at entry other .1)
+            (λ x. sym (reads-same limit s' s lo₀ hi₀ Chosen sites″ agree″ x (h .is) (h .outside) at entry other .1)) (h .handed)
+            ∙ sym a';
+        owner = owner-alike limit s s' lo₀ hi₀ Chosen sites agree;
+        pad = pad-alike limit s s' lo₀ hi₀ Chosen sites agree;
+      },
+    )

@@ -1,10 +1,10 @@
 -- Where tiles stand: what a step finds is led to, from its cursor, by the pads that it passes; so are the items of a run and the pads of a call after it.
 -- Assumes nothing.
-use Prim.Native.Nat.{ℕ, _-_, _≤_, _<_}
+use Prim.Native.Nat.{ℕ, _≤_, _<_}
 use native.Mathlib.Omega.{arith}
 use mathlib.Core.Path.{_≡_, refl, _∙_, sym, ap, subst}
 use mathlib.Core.Bool.{false}
-use mathlib.Core.Logic.{_⊎_, ⊎-elim}
+use mathlib.Core.Logic.{⊎-elim}
 use mathlib.Core.List.{List, _∷_, List·Memᴰ, List·Memᴰ·cases-cons}
 use Rattle.numbers.specs.Outcome.{Outcome, gives, refuses}
 use Rattle.framing.specs.Spans.{Spans}
@@ -13,7 +13,7 @@ use Rattle.framing.proofs.Bounds.{Ordered, read-value-each}
 use Rattle.stepping.specs.Items.{Item, finish, marker, value, field, itemEnd, Pad}
 use Rattle.stepping.specs.Answers.{Tile, skip, hand, tileAt, Found, found, after, Stepped, stepOf}
 use Rattle.stepping.specs.Runs.{cursor, Answers, Run, none, call, handedOut, items}
-use Rattle.runs.specs.Reached.{ValueOf, a-value, a-field, itemStart, Part, the-stream, inner, Handed, left, padsAfter}
+use Rattle.runs.specs.Reached.{ValueOf, a-value, a-field, itemStart, Part, the-stream, inner, left, padsAfter}
 use Rattle.runs.specs.Overwritten.{Site, ReachedSite, reached-value, reached-pad}
 use Rattle.stepping.specs.declared.cursor.Cursor.{Cursor}
 use Rattle.stepping.specs.declared.cursor.Rules.{Rules}

@@ -1,7 +1,7 @@
 -- The change request A.14, "Many overwritten bodies": any set of reached values and pads, none inside another, with what may be overwritten of them and what
 -- stays then.
 -- Assumes nothing.
-use Prim.Native.Nat.{ℕ, _≤_, _<_}
+use Prim.Native.Nat.{ℕ}
 use mathlib.Core.Path.{_≡_}
 use mathlib.Core.List.{List, List·Memᴰ}
 use lib.ListN.{length}
