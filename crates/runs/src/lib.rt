@@ -1,2 +1,2 @@
-// Whole runs of steps: what calls reach, what overwriting a body leaves as it was, and the machine's own answers.
+// Whole runs of steps: what calls reach, what overwriting bodies and annotations leaves as it was, and the machine's own answers.
 // No function: theorems on those of `stepping` and `values`.
