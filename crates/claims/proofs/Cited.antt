@@ -38,6 +38,7 @@ use Rattle.runs.proofs.OneBody.{still-reached}
 use Rattle.runs.proofs.PartSets.{parts-are-sets}
 use Rattle.runs.proofs.Program.{program-ends, program-tiling, program-overwriting, program-one-body}
 use Rattle.overwriting.proofs.TextsStay.{texts-stay}
+use Rattle.overwriting.proofs.ProgramTexts.{program-texts-stay}
 use Rattle.records.proofs.FirstBytes.{first-bytes}
 use Rattle.maps.proofs.RunsOfCalls.{runs-of-calls}
 use Rattle.maps.proofs.RecordsBegin.{records-begin}
@@ -58,6 +59,7 @@ module _ (M : Type 1) (𝓤 : URA M) (H : Heap 𝓤) (𝓜 : Model 𝓤 H) (𝓖
         manyOverwritten = program-overwriting 𝓤 H 𝓜 𝓖 κs;
         manyReached = overwriting;
         textsStay = texts-stay;
+        programTextsStay = program-texts-stay 𝓤 H 𝓜 𝓖;
         partsAreSets = parts-are-sets;
         exported = runs-of-calls;
         boundedTiled = bounded-tiling;

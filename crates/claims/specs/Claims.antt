@@ -26,6 +26,7 @@ use Rattle.checking.specs.Moved.{ItemsAlike}
 use Rattle.runs.specs.Theorems.{Overwriting, PartsAreSets, StillReached}
 use Rattle.runs.specs.Program.{ProgramEnds, ProgramTiling, ProgramOverwriting, ProgramOneBody}
 use Rattle.overwriting.specs.TextsStay.{TextsStay}
+use Rattle.overwriting.specs.ProgramTexts.{ProgramTextsStay}
 use Rattle.records.specs.Theorems.{FirstBytes}
 use Rattle.maps.specs.Theorems.{RunsOfCalls, RecordsBegin}
 
@@ -55,10 +56,11 @@ module _ (M : Type 1) (𝓤 : URA M) (H : Heap 𝓤) (𝓜 : Model 𝓤 H) (𝓖
     -- By the change request A.14, of "any set of reached values and pads, none inside another", with "their bodies, and annotation bytes where there are any"
     -- overwritten: "each reached step and scalar reading outside them, stay the same; annotation IDs stay where their bytes did", of the program; "Spans at all
     -- of them" stay, in that they are reached on the second map too; and "An ID's text may move only" after an overwritten table, or what lies in one or may be
-    -- one. The values and pads of any one part are such a set. The theorem on one body is a case of it.
+    -- one, of the definitions and, for whichever two borrows lend map and system's texts, of the program. The values and pads of any one part are such a set. The theorem on one body is a case of it.
     pub manyOverwritten : ProgramOverwriting 𝓤 H 𝓜 𝓖 κs
     pub manyReached : Overwriting
     pub textsStay : TextsStay
+    pub programTextsStay : (lent : Lfts 2) → ProgramTextsStay 𝓤 H 𝓜 𝓖 lent
     pub partsAreSets : PartsAreSets
     -- The exported function of many steps makes such a run.
     pub exported : RunsOfCalls

@@ -1,3 +1,4 @@
 pub mod SameSteps
 pub mod SameBytes
 pub mod TextsStay
+pub mod ProgramTexts

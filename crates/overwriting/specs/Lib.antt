@@ -1,1 +1,2 @@
 pub mod TextsStay
+pub mod ProgramTexts
