@@ -56,7 +56,8 @@ module _ (M : Type 1) (𝓤 : URA M) (H : Heap 𝓤) (𝓜 : Model 𝓤 H) (𝓖
     -- By the change request A.14, of "any set of reached values and pads, none inside another", with "their bodies, and annotation bytes where there are any"
     -- overwritten: "each reached step and scalar reading outside them, stay the same; annotation IDs stay where their bytes did", of the program; "Spans at all
     -- of them" stay, in that they are reached on the second map too; and "An ID's text may move only" after an overwritten table, or what lies in one or may be
-    -- one, of the definitions and, for whichever two borrows lend map and system's texts, of the program. The values and pads of any one part are such a set. The theorem on one body is a case of it.
+    -- one, of the definitions and, for whichever two borrows lend map and system's texts, of the program. The values and pads of any one part are such a set.
+    -- The theorem on one body is a case of it.
     pub manyOverwritten : ProgramOverwriting 𝓤 H 𝓜 𝓖 κs
     pub manyReached : Overwriting
     pub textsStay : TextsStay
