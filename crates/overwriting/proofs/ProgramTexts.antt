@@ -13,7 +13,6 @@ use contract.Lifetimes.{Lfts}
 use contract.Running.{GhostRules, real}
 use denote.Ref.{RefT, now}
 use Rattle.numbers.specs.Outcome.{Outcome, gives, refuses}
-use Rattle.numbers.specs.declared.refusal.Refusal.{Refusal}
 use Rattle.symbols.specs.Read.{symbolsRead, textRead}
 use Rattle.symbols.specs.Text.{Own, no-list, listed, Text, unknown, own, system, symbolsAt, textOf}
 use Rattle.symbols.specs.declared.symbols.OwnList.{OwnList}
@@ -32,26 +31,20 @@ use Rattle.symbols.proofs.symbols.text_of.Symbol as texting-symbol
 use Rattle.symbols.proofs.symbols.text_of.Met as texting-met
 use Rattle.runs.proofs.Machine as machine
 use Rattle.runs.proofs.Machine.{Answered}
-use Rattle.runs.proofs.Values.{num, parts, nth, choose}
+use Rattle.runs.proofs.Values.{num, field, read-refusal, choose}
 use Rattle.overwriting.specs.ProgramTexts.{Lists, Texts, ProgramTextsStay}
 use Rattle.overwriting.proofs.TextsStay.{texts-stay}
-
-part-of : ℕ → Val → Val
-part-of i v = nth i (parts v)
-
-read-refusal : Val → Refusal
-read-refusal v = record { number = num (part-of 0 v); position = num (part-of 1 v) }
 
 -- ---- the list
 
 read-own : Val → OwnList
-read-own v = choose (num (part-of 0 v)) (NoList ∷ []) (OfList (num (part-of 1 v)) (num (part-of 2 v)))
+read-own v = choose (num (field 0 v)) (NoList ∷ []) (OfList (num (field 1 v)) (num (field 2 v)))
 
 read-list : Val → Symbols
-read-list v = choose (num (part-of 0 v)) (Of (read-own (part-of 1 v)) ∷ []) (ListRefused (read-refusal (part-of 1 v)))
+read-list v = choose (num (field 0 v)) (Of (read-own (field 1 v)) ∷ []) (ListRefused (read-refusal (field 1 v)))
 
 list-back : (x : Symbols) → read-list (list-laws.lowered x) ≡ x
-unfolding part-of read-refusal read-own read-list
+unfolding read-own read-list
 list-back (Of NoList) = refl
 list-back (Of (OfList a b)) = refl
 list-back (ListRefused e) = refl
@@ -80,12 +73,12 @@ list-read (ListRefused e) = refl
 
 read-text : Val → SymbolText
 read-text v =
-    choose (num (part-of 0 v))
-    (Unknown ∷ OwnText (num (part-of 1 v)) (num (part-of 2 v)) ∷ System (num (part-of 1 v)) (num (part-of 2 v)) ∷ [])
-    (TextRefused (read-refusal (part-of 1 v)))
+    choose (num (field 0 v))
+    (Unknown ∷ OwnText (num (field 1 v)) (num (field 2 v)) ∷ System (num (field 1 v)) (num (field 2 v)) ∷ [])
+    (TextRefused (read-refusal (field 1 v)))
 
 text-back : (x : SymbolText) → read-text (text-laws.lowered x) ≡ x
-unfolding part-of read-refusal read-text
+unfolding read-text
 text-back Unknown = refl
 text-back (OwnText a b) = refl
 text-back (System a b) = refl

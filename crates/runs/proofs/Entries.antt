@@ -14,7 +14,6 @@ use contract.Lifetimes.{Lfts}
 use contract.Running.{GhostRules, real}
 use denote.Ref.{RefT, now}
 use Rattle.numbers.specs.Outcome.{Outcome, gives, refuses}
-use Rattle.numbers.specs.declared.refusal.Refusal.{Refusal}
 use Rattle.framing.specs.Answers.{Annotated, ident, finished, readAnnotation}
 use Rattle.framing.specs.Read.{annotationRead}
 use Rattle.framing.specs.declared.annotations_iterator.Annotation.{Annotation}
@@ -43,13 +42,7 @@ use Rattle.values.proofs.value.read.Met as reading-met
 use Rattle.runs.specs.Program.{Annotates, Enters, Reads}
 use Rattle.runs.proofs.Machine as machine
 use Rattle.runs.proofs.Machine.{Answered}
-use Rattle.runs.proofs.Values.{num, bit, parts, nth, choose}
-
-field : ℕ → Val → Val
-field i v = nth i (parts v)
-
-read-refusal : Val → Refusal
-read-refusal v = record { number = num (field 0 v); position = num (field 1 v) }
+use Rattle.runs.proofs.Values.{num, bit, field, read-refusal, choose}
 
 -- ---- annotations
 
@@ -58,7 +51,7 @@ read-annotation v =
     choose (num (field 0 v)) (Id (num (field 1 v)) (num (field 2 v)) ∷ End ∷ []) (AnnotationRefused (read-refusal (field 1 v)))
 
 annotation-back : (x : Annotation) → read-annotation (annotation-laws.lowered x) ≡ x
-unfolding field read-refusal read-annotation
+unfolding read-annotation
 annotation-back (Id i n) = refl
 annotation-back End = refl
 annotation-back (AnnotationRefused e) = refl
@@ -95,7 +88,7 @@ read-body v =
     (BodyRefused (read-refusal (field 1 v)))
 
 body-back : (x : Body) → read-body (body-laws.lowered x) ≡ x
-unfolding field read-refusal read-rules read-body
+unfolding read-rules read-body
 body-back (Open Stream c) = refl
 body-back (Open Sequence c) = refl
 body-back (Open Fields c) = refl
@@ -129,7 +122,7 @@ read-scalar v =
     (ScalarRefused (read-refusal (field 1 v)))
 
 scalar-back : (x : ScalarEnum) → read-scalar (scalar-laws.lowered x) ≡ x
-unfolding field read-refusal read-scalar
+unfolding read-scalar
 scalar-back (Null t) = refl
 scalar-back (Bool b) = refl
 scalar-back (Int n a b) = refl

@@ -15,7 +15,6 @@ use contract.Lifetimes.{Lfts}
 use contract.Running.{GhostRules, real}
 use denote.Ref.{RefT, now}
 use Rattle.numbers.specs.Outcome.{Outcome, gives, refuses}
-use Rattle.numbers.specs.declared.refusal.Refusal.{Refusal}
 use Rattle.framing.specs.Spans.{Spans}
 use Rattle.framing.specs.Answers.{Annotated}
 use Rattle.framing.specs.declared.encoded_value.EncodedValue.{EncodedValue}
@@ -33,7 +32,7 @@ use Rattle.stepping.specs.declared.cursor.Item.the-variants.{End, Marker, Value
 use Rattle.stepping.specs.declared.cursor.Step.{Step}
 use Rattle.runs.proofs.Machine as machine
 use Rattle.runs.proofs.Machine.{Answered}
-use Rattle.runs.proofs.Values.{num, parts, nth, choose}
+use Rattle.runs.proofs.Values.{num, parts, nth, read-refusal, choose}
 use Rattle.stepping.proofs.Tiling.{tiling}
 use Rattle.runs.proofs.Overwriting.{overwriting}
 use Rattle.runs.proofs.OneBody.{Stands, by-rules, one-of-many}
@@ -52,9 +51,6 @@ use Rattle.stepping.proofs.cursor.Cursor.next_in_struct.Met as in-struct-met
 use Rattle.values.specs.Scalars.{partOf, scalarPart}
 
 -- a step, read back from its machine value
-read-refusal : Val → Refusal
-read-refusal v = record { number = num (nth 0 (parts v)); position = num (nth 1 (parts v)) }
-
 read-value : Val → EncodedValue
 read-value v =
     let f : ℕ → ℕ = λ i. num (nth i (parts v)) in
@@ -72,7 +68,7 @@ read-step v =
     record { item = read-item (nth 0 (parts v)); next = cursor (num (nth 0 (parts (nth 1 (parts v))))) (num (nth 1 (parts (nth 1 (parts v))))) }
 
 read-back : (x : Item) (n : Cursor) → read-step (lowered (record { item = x; next = n })) ≡ record { item = x; next = n }
-unfolding read-refusal read-value read-item read-step
+unfolding read-value read-item read-step
 read-back (End p) n = refl
 read-back (Marker a x y e) n = refl
 read-back (Value v) n = refl

@@ -4,6 +4,7 @@ use Prim.Native.Nat.{ℕ, zero, suc}
 use mathlib.Core.Bool.{Bool, false}
 use mathlib.Core.List.{List, [], _∷_}
 use mir.Val.{Val, Vals, vunit, vbool, vint, vfloat, vptr, vstruct, vnil, vcons}
+use Rattle.numbers.specs.declared.refusal.Refusal.{Refusal}
 
 -- a number, a bool and a struct's parts, as the machine has them
 abbrev pub num : Val → ℕ
@@ -34,6 +35,12 @@ abbrev pub nth : ℕ → Vals → Val
 nth k vnil = vunit
 nth zero (vcons v vs) = v
 nth (suc k) (vcons v vs) = nth k vs
+
+abbrev pub field : ℕ → Val → Val
+field i v = nth i (parts v)
+
+abbrev pub read-refusal : Val → Refusal
+read-refusal v = record { number = num (field 0 v); position = num (field 1 v) }
 
 -- the case of an enum that its tag names, of those given in order; the last one serves for every later tag
 abbrev pub choose : {A : Type 0} → ℕ → List A → A → A
