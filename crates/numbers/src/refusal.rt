@@ -93,3 +93,9 @@ pub const NOT_THE_SYSTEM_TEXT: u64 = 66;
 pub const NO_PADS_ALLOWED: u64 = 67;
 // A limit outside its range.
 pub const LIMIT_OUT_OF_RANGE: u64 = 68;
+// A lent buffer that is shorter than the packed map.
+pub const NO_ROOM_TO_PACK: u64 = 69;
+// A lent buffer that is shorter than what is to be written.
+pub const NO_ROOM_TO_WRITE: u64 = 70;
+// A pad of size 0, or a length that 9 VarUInt bytes cannot tell.
+pub const NO_SUCH_LENGTH: u64 = 71;

@@ -1,0 +1,3 @@
+pub mod VarUInts
+pub mod Standing
+pub mod Heads
