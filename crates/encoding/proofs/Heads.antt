@@ -36,6 +36,14 @@ pub head-long : (n : ℕ) → 14 ≤ n → headSize n ≡ 1 + varUIntSize n
 unfolding headSize
 head-long n h = rw (le-ltb n 14 h)
 
+pub bytes-short : (type n : ℕ) → n < 14 → headBytes type n ≡ (type * 16 + n) ∷ []
+unfolding headBytes headByte headCode
+bytes-short type n h = rw (lt-ltb n 14 h)
+
+pub bytes-long : (type n : ℕ) → 14 ≤ n → headBytes type n ≡ (type * 16 + 14) ∷ varUIntBytes n
+unfolding headBytes headByte headCode
+bytes-long type n h = rw (le-ltb n 14 h)
+
 pub head-some : (n : ℕ) → 1 ≤ headSize n
 unfolding headSize
 head-some n = by-test (λ (x : ℕ). 1 ≤ x) (ltb n 14) (λ _. omega arith) (λ _. omega arith)

@@ -1,3 +1,4 @@
 pub mod VarUInts
 pub mod Standing
 pub mod Heads
+pub mod Stores
