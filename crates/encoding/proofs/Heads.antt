@@ -94,7 +94,7 @@ number-stands s at end n h b =
 
 -- ---- a header where its bytes stand
 
-code-below : (n : ℕ) → headCode n ≤ 14
+pub code-below : (n : ℕ) → headCode n ≤ 14
 unfolding headCode
 code-below n = by-test (λ (x : ℕ). x ≤ 14) (ltb n 14) (λ e. omega (arith, ltb-true n 14 e)) (λ _. omega arith)
 
@@ -144,7 +144,7 @@ unfolding headCode
 same-code n h = rw (lt-ltb n 14 h)
 
 -- a code below 14 is the length
-code-same : (n c : ℕ) → c < 14 → headCode n ≡ c → n ≡ c
+pub code-same : (n c : ℕ) → c < 14 → headCode n ≡ c → n ≡ c
 unfolding headCode
 code-same n c h = by-test (λ (x : ℕ). x ≡ c → n ≡ c) (ltb n 14) (λ _ e. e) (λ _ e. absurd (omega arith))
 

@@ -1,0 +1,10 @@
+pub mod Examples
+pub mod Sizes
+pub mod Shapes
+pub mod Values
+pub mod Back
+pub mod Lawful
+pub mod ReadBack
+pub mod Twice
+pub mod Places
+pub mod Unrolled

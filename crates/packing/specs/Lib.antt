@@ -1,0 +1,6 @@
+pub mod Tree
+pub mod Packed
+pub mod Answers
+pub mod Read
+pub mod Theorems
+pub mod Private

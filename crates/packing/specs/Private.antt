@@ -1,0 +1,3 @@
+-- Definitions that only private functions' contracts cite: a reader of the crate needs none of them.
+pub mod Sizes
+pub mod Items
