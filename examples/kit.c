@@ -297,6 +297,26 @@ static void check_limits(void)
     }
 }
 
+static void check_packed(void)
+{
+    static const uint8_t padded[] = {
+        0xE0, 0x01, 0x00, 0xEA,                   /*  0: the marker */
+        0xE9, 0x00, 0x81, 0x84,                   /*  4: a wrapper with the annotation 4, its length in two bytes, */
+        0xD5, 0x84, 0x00, 0x85, 0x21, 0x07,       /*  8: in it a struct with a pad and the field 5 */
+        0xD1, 0x82, 0x84, 0x00,                   /* 14: an ordered struct with nothing but a pad */
+        0x01, 0xFF                                /* 18: a pad */
+    };
+    static const words size = {ION_MAP_KIND_PACKED_SIZE, 0, 0, 12, 0, 0, 0, 0, 0};
+    static const words refused = {ION_MAP_KIND_REFUSED, ION_MAP_REFUSAL_PAD_CUT, 19, 0, 0, 0, 0, 0, 0};
+
+    check("packed size", ion_map_packed_size(padded, 20, LIMIT, DEPTH, record, sizeof record), 0);
+    check_words("packed size", record, size);
+    check("packed size of a cut map", ion_map_packed_size(padded, 19, LIMIT, DEPTH, record, sizeof record), 6);
+    check_words("packed size of a cut map", record, refused);
+    check("packed size, wrong depth", ion_map_packed_size(padded, 20, LIMIT, 65, record, sizeof record), 68);
+    check("packed size, short record", ion_map_packed_size(padded, 20, LIMIT, 65, record, sizeof record - 1), 51);
+}
+
 static void check_symbols(void)
 {
     static const uint8_t names[] = {
@@ -435,6 +455,7 @@ int main(void)
     check_symbols();
     check_null();
     check_texts();
+    check_packed();
     printf("%d checks, %d differ\n", checks, differing);
     return differing != 0;
 }

@@ -582,4 +582,35 @@ uint64_t ion_map_symbol_text(const uint8_t *map, size_t map_len, const uint8_t *
 
 /* ======================================= End of part 3 ======================================= */
 
+/* ======================================= Part 4: packed maps ======================================= */
+
+/* A packed map is the map without its pads, a struct's pads with their field IDs, and with every length, those of
+   wrappers included, in its shortest form. Markers, field IDs, annotations, the bodies of scalars and the descriptors of
+   nulls and bools stay byte for byte. An ordered struct stays ordered, with a VarUInt length; one that has nothing left
+   in it becomes D0. */
+
+/* Kinds of the records of part 4, beside ION_MAP_KIND_REFUSED; words 1, 2 and 4 to 8 are 0. */
+enum {
+    ION_MAP_KIND_PACKED_SIZE = 15
+};
+
+enum {
+    ION_MAP_PACKED_SIZE = 3 /* how many bytes the packed map has */
+};
+
+#ifdef __cplusplus
+extern "C" {
+#endif
+
+/* How many bytes the packed map has; nothing is written but the record. A map that ion_map_check doesn't accept is
+   refused as there. Record kinds: PACKED_SIZE, REFUSED. */
+uint64_t ion_map_packed_size(const uint8_t *map, size_t map_len, size_t annotations, size_t depth, uint8_t *out,
+                             size_t out_len);
+
+#ifdef __cplusplus
+}
+#endif
+
+/* ======================================= End of part 4 ======================================= */
+
 #endif

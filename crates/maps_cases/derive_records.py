@@ -54,10 +54,14 @@ REFUSALS = {
     "symbols": STEPPING | {64, 65, 66},
     "symbol_text": (STEPPING | {36, 66}) - {2, 7, 21, 60},
     "step_bounded": STEPPING | {67},
+    "packed_size": (STEPPING - {50}) | {4, 33, 34, 35, 36, 37, 61, 62, 63},
 }
+
+PACKED_SIZE = 15
 
 # How many numbers a question has before its limits.
 NUMBERS = {"step": 5, "steps": 5, "annotation": 4, "step_in": 4, "scalar": 4, "number": 6, "decimal": 3, "timestamp": 4}
+NUMBERS |= {"packed_size": 1}
 NUMBERS |= {"walked": 1, "check": 1, "ids": 3, "text": 5, "symbols": 4, "symbol_text": 4, "step_bounded": 6}
 
 # ===== The records' words =====
@@ -396,6 +400,60 @@ def checked(data, limits):
     return [CHECKED, *counts]
 
 
+# ===== The packed map: the change requests A.11 and A.12 =====
+
+
+def var_uint_of(number):
+    """A number in the fewest VarUInt bytes."""
+    groups = [number % 128 + 128]
+    while number >= 128:
+        number //= 128
+        groups.append(number % 128)
+    return bytes(reversed(groups))
+
+
+def of_length(kind, body):
+    """A descriptor, a length in its shortest form, and the body."""
+    if len(body) < 14:
+        return bytes([16 * kind + len(body)]) + body
+    return bytes([16 * kind + 14]) + var_uint_of(len(body)) + body
+
+
+def packed_value(data, item, limits):
+    """The value without its name: "descriptors of nulls and bools are copied", "an ordered struct left empty becomes D0"."""
+    kind, code = divmod(item.byte, 16)
+    if kind in (steps.NULL, steps.BOOL) or code == 15:
+        return bytes([item.byte])
+    body = data[item.body : item.end]
+    if steps.is_open(item.byte):
+        body = packed_part(data, item.body, item.end, FIELDS if kind == steps.STRUCT else 1, limits)
+    if item.byte == 0xD1 and body:
+        return bytes([item.byte]) + var_uint_of(len(body)) + body
+    return of_length(kind, body)
+
+
+def packed_part(data, at, end, kind, limits):
+    packed = b""
+    while (item := STEPS[kind](data, at, end, limits)) is not None:
+        at = item.end
+        if item.byte == steps.MARKER:
+            packed += data[item.start : item.end]
+            continue
+        named = var_uint(data, item.start, item.end)[1] if kind == FIELDS else item.start
+        annotations = data[annotations_start(data, named, item.descriptor) : item.descriptor]
+        value = packed_value(data, item, limits)
+        if annotations:
+            value = of_length(steps.WRAPPER, var_uint_of(len(annotations)) + annotations + value)
+        packed += data[item.start : named] + value
+    return packed
+
+
+def packed_size(data, limits):
+    checks = checked(data, limits)
+    refuse_if(checks[0] == REFUSED, *checks[1:3])
+    return record(PACKED_SIZE, 0, 0, len(packed_part(data, 0, len(data), 0, limits)), 0, 0, 0, 0)
+
+
 # ===== What a call returns and leaves =====
 
 COUNTS = {"walked": walked, "ids": ids}
@@ -409,6 +467,7 @@ SINGLE = {
     "number": number,
     "decimal": decimal,
     "timestamp": timestamp,
+    "packed_size": packed_size,
 }
 OF_SYMBOLS = {"text": text, "symbols": symbols, "symbol_text": symbol_text}
 

@@ -25,6 +25,7 @@ pub(crate) mod kind {
     pub(crate) const CHECKED: u64 = 12;
     pub(crate) const TEXT: u64 = 13;
     pub(crate) const SYMBOLS: u64 = 19;
+    pub(crate) const PACKED_SIZE: u64 = 15;
 }
 
 /// A record that is no refusal, once it was asked for. Its words are read as they are needed.

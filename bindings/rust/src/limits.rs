@@ -3,6 +3,7 @@
 use crate::bounded::{self, Bounded, BoundedItems};
 use crate::check::{self, Counts};
 use crate::item::Item;
+use crate::packed;
 use crate::part::Part;
 use crate::refusal::Refusal;
 use crate::scalar::{self, Scalar};
@@ -125,6 +126,11 @@ impl Limits {
     /// [`check`](crate::check) by these limits.
     pub fn check(self, map: &[u8]) -> Result<Counts, Refusal> {
         check::check_by(self, map)
+    }
+
+    /// [`packed_size`](crate::packed_size) by these limits.
+    pub fn packed_size(self, map: &[u8]) -> Result<usize, Refusal> {
+        packed::packed_size_by(self, map)
     }
 
     /// [`walked`](crate::walked) by these limits; 0 where one is out of its range.

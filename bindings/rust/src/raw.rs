@@ -154,6 +154,14 @@ extern "C" {
         out: *mut u8,
         out_len: usize,
     ) -> u64;
+    fn ion_map_packed_size(
+        map: *const u8,
+        map_len: usize,
+        annotations: usize,
+        depth: usize,
+        out: *mut u8,
+        out_len: usize,
+    ) -> u64;
     fn ion_map_walked(map: *const u8, map_len: usize, most: u64, annotations: usize, depth: usize) -> u64;
     fn ion_map_ids(
         map: *const u8,
@@ -596,4 +604,16 @@ pub const CHECK_SIZE: usize = CHECK_WORDS * 8;
 pub fn check(map: &[u8], annotations: usize, depth: usize, out: &mut [u8]) -> u64 {
     // SAFETY: as in `step`.
     unsafe { ion_map_check(map.as_ptr(), map.len(), annotations, depth, out.as_mut_ptr(), out.len()) }
+}
+
+/// How many bytes a packed map has: kind 15, or a refusal.
+///
+/// ```
+/// let mut record = [0; ion_map::raw::RECORD_SIZE];
+/// assert_eq!(ion_map::raw::packed_size(&[0x2E, 0x81, 0x07, 0x00], 255, 32, &mut record), 0);
+/// assert_eq!((record[0], record[8 * 3]), (15, 2));
+/// ```
+pub fn packed_size(map: &[u8], annotations: usize, depth: usize, out: &mut [u8]) -> u64 {
+    // SAFETY: as in `step`.
+    unsafe { ion_map_packed_size(map.as_ptr(), map.len(), annotations, depth, out.as_mut_ptr(), out.len()) }
 }

@@ -2,6 +2,7 @@
 ghost use mathlib.Core.Path.{_≡_};
 ghost use Prim.Native.Nat.{_<_, _≤_};
 ghost use lib.ListN.{length};
+use crate::packed_calls;
 use crate::symbol_calls;
 use additions::bounded::ion_map_step_bounded;
 use maps::exports::ion_map_annotation;
@@ -57,6 +58,9 @@ fn size_word(asked: &[u8]) -> usize {
         return 0;
     }
     if check::same(asked, b"check") {
+        return 2;
+    }
+    if check::same(asked, b"packed_size") {
         return 2;
     }
     if check::same(asked, b"decimal") {
@@ -228,7 +232,7 @@ fn called(line: &[u8], map: &[u8], out: &mut [u8]) -> Line {
             number_or(line, 5, ANNOTATION_LIMIT),
         ));
     }
-    symbol_calls::called(line, map, out)
+    packed_calls::called(line, map, out)
 }
 
 // The same with the first `size` bytes of `out` as the buffer; with more than there is room for, no call.

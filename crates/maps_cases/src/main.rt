@@ -1,6 +1,7 @@
 // Calls the exported functions as the files that its arguments name say, and compares what each returned and left in its buffer
 // with what is written there: for each file it writes how many agree and how many differ, and each one that differs.
 mod calls;
+mod packed_calls;
 mod symbol_calls;
 
 use questions::comparing;
