@@ -8,3 +8,5 @@ pub mod ReadBack
 pub mod Twice
 pub mod Places
 pub mod Unrolled
+pub mod Fronts
+pub mod Buffers

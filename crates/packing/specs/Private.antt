@@ -1,3 +1,4 @@
 -- Definitions that only private functions' contracts cite: a reader of the crate needs none of them.
 pub mod Sizes
 pub mod Items
+pub mod Fronts

@@ -42,12 +42,12 @@ pub(crate) enum Met {
 }
 
 // The descriptor of an ordered struct, and of an empty one.
-const ORDERED: u8 = 0xD1;
+pub(crate) const ORDERED: u8 = 0xD1;
 
 const EMPTY_STRUCT: u8 = 0xD0;
 
 // The bytes of a marker.
-const MARKER: usize = 4;
+pub(crate) const MARKER: usize = 4;
 
 // Whether no length stands in a descriptor: those of nulls and bools.
 pub(crate) fn lengthless(byte: u8) -> bool
