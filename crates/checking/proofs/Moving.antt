@@ -74,11 +74,11 @@ further s t a b a' b' X e on back =
 module _ (s t : List ℕ) (n b : ℕ) (k : b ≤ length s) (k' : n + b ≤ length t) where
   -- ---- annotation IDs
 
-  abbrev movedId : Annotated → Annotated
+  abbrev pub movedId : Annotated → Annotated
   movedId (ident id next) = ident id (n + next)
   movedId finished = finished
 
-  annotation-moved : (a : ℕ) → a ≤ b → ((i : ℕ) → a ≤ i → i < b → getD s i 0 ≡ getD t (n + i) 0) → Moved n movedId (readAnnotation s a b) (readAnnotation t (n + a) (n + b))
+  pub annotation-moved : (a : ℕ) → a ≤ b → ((i : ℕ) → a ≤ i → i < b → getD s i 0 ≡ getD t (n + i) 0) → Moved n movedId (readAnnotation s a b) (readAnnotation t (n + a) (n + b))
   unfolding readAnnotation
   annotation-moved a l same =
       rw (inside s a b l k, inside t (n + a) (n + b) (omega arith) k', same-moved n a b)
@@ -98,10 +98,10 @@ module _ (s t : List ℕ) (n b : ℕ) (k : b ≤ length s) (k' : n + b ≤ lengt
   -- ---- a scalar
 
   module _ (a : ℕ) (l : a ≤ b) (same : (i : ℕ) → a ≤ i → i < b → getD s i 0 ≡ getD t (n + i) 0) where
-    difference : n + b - (n + a) ≡ b - a
+    pub difference : n + b - (n + a) ≡ b - a
     difference = omega arith
 
-    utf8-moved : utf8 t (n + a) (n + b) ≡ utf8 s a b
+    pub utf8-moved : utf8 t (n + a) (n + b) ≡ utf8 s a b
     unfolding utf8
     utf8-moved = rw (inside s a b l k, inside t (n + a) (n + b) (omega arith) k', part-moved s t n a b l k k' same a b (omega arith) (omega arith))
 
@@ -113,7 +113,7 @@ module _ (s t : List ℕ) (n b : ℕ) (k : b ≤ length s) (k' : n + b ≤ lengt
         rw (← same at p (omega arith), e)
         (by-case (eqb (getD s at 0) 0) (λ h. rw h (nonzero-moved m (suc at) (omega arith) (omega arith))) (λ h. rw h))
 
-    significant-moved : significantFrom t (n + a) (n + b) ≡ n + significantFrom s a b
+    pub significant-moved : significantFrom t (n + a) (n + b) ≡ n + significantFrom s a b
     unfolding significantFrom
     significant-moved =
         rw (inside s a b l k, inside t (n + a) (n + b) (omega arith) k', difference) (nonzero-moved (b - a) a (omega arith) (omega arith))

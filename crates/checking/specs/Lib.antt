@@ -1,6 +1,7 @@
 pub mod Counts
 pub mod Reading
 pub mod Check
+pub mod Body
 pub mod Answers
 pub mod Read
 pub mod WalkRead

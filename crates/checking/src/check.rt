@@ -9,8 +9,9 @@ ghost use Rattle.numbers.specs.Read.{refusalRead};
 ghost use Rattle.framing.specs.Limits.{outOfRange};
 ghost use Rattle.framing.specs.Read.{spansOf};
 ghost use Rattle.checking.specs.Check.{valueCheck};
+ghost use Rattle.checking.specs.Body.{limitedBody};
 ghost use Rattle.checking.specs.Answers.{answerOf, checkOf};
-ghost use Rattle.checking.specs.Read.{verdictRead, checkedRead};
+ghost use Rattle.checking.specs.Read.{doneRead, verdictRead, checkedRead};
 ghost use Rattle.checking.specs.Private.Items.{Below, Placed};
 ghost use Rattle.checking.specs.Private.Whole.{full};
 use crate::item::Head;
@@ -20,6 +21,7 @@ use crate::item::Verdict;
 use crate::item::check_head;
 use crate::item::meet;
 use framing::encoded_value::EncodedValue;
+use framing::limits::out_of_range;
 use numbers::refusal::LIMIT_OUT_OF_RANGE;
 use numbers::refusal::Refusal;
 use numbers::refusal::TOO_DEEP;
@@ -120,4 +122,18 @@ pub fn check_map(s: &[u8], limit: usize, deepest: usize) -> Checked
         },
         Verdict::Refused(refusal) => refused(refusal),
     }
+}
+
+// Checks a body by itself, whose containers may be `room` deeper.
+pub fn check_body(s: &[u8], rules: Rules, room: usize, limit: usize) -> Verdict
+    ensures { λ r. ⌜ doneRead r ≡ limitedBody limit room rules (now (s .entry)) ⌝ }
+{
+    if out_of_range(limit) {
+        return Verdict::Refused(Refusal {
+            number: LIMIT_OUT_OF_RANGE,
+            position: 0,
+        });
+    }
+    let mut counts = [0u64; PLACES];
+    check_part(s, &mut counts, rules, room, 0, s.len(), limit)
 }

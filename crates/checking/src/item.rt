@@ -74,7 +74,7 @@ fn long(x: usize) -> u64
 }
 
 // Reads each annotation ID of the bytes start..end.
-fn read_ids(s: &[u8], start: usize, end: usize) -> Verdict
+pub fn read_ids(s: &[u8], start: usize, end: usize) -> Verdict
     ensures { λ r. ⌜ doneRead r ≡ readIds (now (s .entry)) start end ⌝ }
 {
     let mut at = start;
@@ -111,7 +111,7 @@ fn read_stamp(s: &[u8], start: usize, end: usize, descriptor: usize) -> Verdict
 }
 
 // Reads what a scalar's own reading leaves: a decimal, or a timestamp whose descriptor stands at `descriptor`.
-fn read_body(s: &[u8], descriptor: usize, scalar: Scalar) -> Verdict
+pub fn read_body(s: &[u8], descriptor: usize, scalar: Scalar) -> Verdict
     ensures { λ r. ⌜ doneRead r ≡ andThen (scalarRead scalar) (readBody (now (s .entry)) descriptor) ⌝ }
 {
     match scalar {

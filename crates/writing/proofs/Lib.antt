@@ -1,0 +1,4 @@
+pub mod FramesMoved
+pub mod StepsMoved
+pub mod ItemsIn
+pub mod ChecksMoved

@@ -1,0 +1,1 @@
+// Writes values of the Ion 1.0 binary encoding.
