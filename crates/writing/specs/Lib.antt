@@ -1,2 +1,4 @@
 pub mod Things
 pub mod Answers
+pub mod Read
+pub mod Private
