@@ -2,6 +2,7 @@
 -- Assumes nothing.
 use borrow.Author.Needs.{needs}
 use borrow.Author.Tests.{lt-ltb, le-ltb}
+use native.Mathlib.Omega.{arith}
 use mathlib.Core.Path.{_≡_, _∙_}
 use mathlib.Core.Bool.{true, false}
 use lib.Dec.{ltb}
@@ -15,11 +16,16 @@ past-year : (c : tie.Else2) → let f = c .before .before .before .before .args 
 unfolding dateOut yearOut monthOut dayOut
 past-year c = rw (le-ltb _ _ (c .before .before .if1 .left), le-ltb _ _ (c .if2 .left))
 
+month-not-0 : (c : tie.Else4) → let f = c .before .before .before .before .before .before .before .before .args .fields in ltb (f .month) 1 ≡ false
+month-not-0 c =
+    let f = c .before .before .before .before .before .before .before .before .args .fields in
+    le-ltb (f .month) 1 (omega (arith, c .if4 .left))
+
 past-month : (c : tie.Else5) → let f = c .before .before .before .before .before .before .before .before .before .before .args .fields in dateOut f ≡ pick (ltb (f .count) 3) false (dayOut f)
 unfolding monthOut
 past-month c =
     past-year (c .before .before .before .before .before .before)
-    ∙ rw (le-ltb _ _ (c .before .before .before .before .if3 .left), le-ltb _ _ (c .before .before .if4 .left), le-ltb _ _ (c .if5 .left))
+    ∙ rw (le-ltb _ _ (c .before .before .before .before .if3 .left), month-not-0 (c .before .before), le-ltb _ _ (c .if5 .left))
 
 returns : tie.Need-returns
 unfolding dateOut yearOut monthOut dayOut
@@ -34,13 +40,16 @@ returns-3 c = rw (past-year (c .before .before), lt-ltb _ _ (c .if3 .taken))
 
 returns-4 : tie.Need-returns-4
 unfolding monthOut
-returns-4 c = rw (past-year (c .before .before .before .before), le-ltb _ _ (c .before .before .if3 .left), lt-ltb _ _ (c .if4 .taken))
+returns-4 c =
+    let f = c .before .before .before .before .before .before .before .before .args .fields in
+    rw
+    (past-year (c .before .before .before .before), le-ltb _ _ (c .before .before .if3 .left), lt-ltb (f .month) 1 (omega (arith, c .if4 .taken)))
 
 returns-5 : tie.Need-returns-5
 unfolding monthOut
 returns-5 c =
     rw
-    (past-year (c .before .before .before .before .before .before), le-ltb _ _ (c .before .before .before .before .if3 .left), le-ltb _ _ (c .before .before .if4 .left), lt-ltb _ _ (c .if5 .taken))
+    (past-year (c .before .before .before .before .before .before), le-ltb _ _ (c .before .before .before .before .if3 .left), month-not-0 (c .before .before), lt-ltb _ _ (c .if5 .taken))
 
 returns-6 : tie.Need-returns-6
 returns-6 c = rw (past-month (c .before .before), lt-ltb _ _ (c .if6 .taken))

@@ -2,18 +2,25 @@
 -- Assumes nothing.
 use borrow.Author.Needs.{needs}
 use borrow.Author.Tests.{lt-ltb, le-ltb, eq-eqb, ne-eqb}
+use native.Mathlib.Omega.{arith}
+use mathlib.Core.Path.{_≡_}
+use mathlib.Core.Bool.{false}
+use lib.Dec.{ltb}
 use Rattle.bodies.specs.Timestamp.{offsetOf}
 use Rattle.bodies.proofs.timestamp.offset_of.Statement.{statement}
 use Rattle.bodies.proofs.timestamp.offset_of.Tie as tie
 
+hour-there : (c : tie.Else1) → ltb (c .before .args .count) 4 ≡ false
+hour-there c = le-ltb (c .before .args .count) 4 (omega (arith, c .if1 .left))
+
 returns : tie.Need-returns
 unfolding offsetOf
-returns c = rw (lt-ltb _ _ (c .if1 .taken))
+returns c = rw (lt-ltb (c .before .args .count) 4 (omega (arith, c .if1 .taken)))
 
 returns-2 : tie.Need-returns-2
 unfolding offsetOf
 returns-2 c =
-    rw (le-ltb _ _ (c .before .before .before .if1 .left), c .before .before .if2 .taken, eq-eqb _ _ (c .if3 .taken))
+    rw (hour-there (c .before .before .before), c .before .before .if2 .taken, eq-eqb _ _ (c .if3 .taken))
 
 cast-result : tie.Need-cast-result
 cast-result c = search needs
@@ -25,7 +32,7 @@ returns-3 : tie.Need-returns-3
 unfolding offsetOf
 returns-3 c =
     rw
-    (le-ltb _ _ (c .before .before .before .before .if1 .left), c .before .before .before .if2 .taken, ne-eqb _ _ (c .before .if3 .left))
+    (hour-there (c .before .before .before .before), c .before .before .before .if2 .taken, ne-eqb _ _ (c .before .if3 .left))
 
 cast-result-2 : tie.Need-cast-result-2
 cast-result-2 c = search needs
@@ -35,7 +42,7 @@ add-result c = search needs
 
 returns-4 : tie.Need-returns-4
 unfolding offsetOf
-returns-4 c = rw (le-ltb _ _ (c .before .before .if1 .left), c .before .if2 .left)
+returns-4 c = rw (hour-there (c .before .before), c .before .if2 .left)
 
 pub offset-of-spec : {M : Type 1} → statement M
 offset-of-spec =

@@ -2,14 +2,20 @@
 -- Assumes nothing.
 use borrow.Author.Needs.{needs}
 use borrow.Author.Tests.{lt-ltb, le-ltb}
-use mathlib.Core.Path.{_∙_, sym}
+use native.Mathlib.Omega.{arith}
+use mathlib.Core.Path.{_≡_, _∙_, sym}
+use mathlib.Core.Bool.{false}
+use lib.Dec.{ltb}
 use Rattle.bodies.specs.Timestamp.{offsetOut, outOfRange}
 use Rattle.bodies.proofs.timestamp.out_of_range.Statement.{statement}
 use Rattle.bodies.proofs.timestamp.out_of_range.Tie as tie
 
+within-a-day : (c : tie.Else1) → ltb 1439 (c .before .before .args .offset .minutes) ≡ false
+within-a-day c = le-ltb 1439 (c .before .before .args .offset .minutes) (omega (arith, c .if1 .left))
+
 returns : tie.Need-returns
 unfolding outOfRange offsetOut
-returns c = rw (lt-ltb _ _ (c .if1 .taken))
+returns c = rw (lt-ltb 1439 (c .before .before .args .offset .minutes) (omega (arith, c .if1 .taken)))
 
 date-out-requires : tie.Need-date-out-requires
 date-out-requires c κs = search needs
@@ -17,7 +23,7 @@ date-out-requires c κs = search needs
 returns-2 : tie.Need-returns-2
 unfolding outOfRange offsetOut
 returns-2 c =
-    rw (le-ltb _ _ (c .before .before .if1 .left), sym (c .before .date-out .ensures) ∙ c .if2 .taken)
+    rw (within-a-day (c .before .before), sym (c .before .date-out .ensures) ∙ c .if2 .taken)
 
 time-out-requires : tie.Need-time-out-requires
 time-out-requires c κs = search needs
@@ -27,7 +33,7 @@ unfolding outOfRange offsetOut
 returns-3 c =
     let d = c .before .before in
     rw
-    (le-ltb _ _ (d .before .before .if1 .left), sym (d .before .date-out .ensures) ∙ d .if2 .left, sym (c .before .time-out .ensures) ∙ c .if3 .taken)
+    (within-a-day (d .before .before), sym (d .before .date-out .ensures) ∙ d .if2 .left, sym (c .before .time-out .ensures) ∙ c .if3 .taken)
 
 fraction-out-requires : tie.Need-fraction-out-requires
 fraction-out-requires c κs = search needs
@@ -38,7 +44,7 @@ returns-4 c =
     let t = c .before in
     let d = t .before .before in
     rw
-    (le-ltb _ _ (d .before .before .if1 .left), sym (d .before .date-out .ensures) ∙ d .if2 .left, sym (t .before .time-out .ensures) ∙ t .if3 .left)
+    (within-a-day (d .before .before), sym (d .before .date-out .ensures) ∙ d .if2 .left, sym (t .before .time-out .ensures) ∙ t .if3 .left)
     (c .fraction-out .ensures)
 
 pub out-of-range-spec : {M : Type 1} → statement M

@@ -3,10 +3,11 @@
 use Prim.Native.Nat.{ℕ, _^_}
 use borrow.Author.Needs.{needs}
 use borrow.Author.Tests.{eq-eqb, ne-eqb}
+use native.Mathlib.Omega.{arith}
 use mathlib.Core.Path.{_≡_, _∙_, sym, ap}
 use mathlib.Core.Bool.{true, false}
 use mathlib.Core.List.{_∷_}
-use lib.Dec.{leb, ltb}
+use lib.Dec.{eqb, leb, ltb}
 use Rattle.numbers.specs.Format.{ofDigits}
 use Rattle.numbers.specs.Outcome.{gives, andThen}
 use Rattle.numbers.specs.Bytes.{part}
@@ -28,6 +29,9 @@ told c d e =
     let a = c .before .before .args in
     rest-within (a .s .now) (a .at) (a .end) d (sym (c .read-decimal .ensures) ∙ e)
 
+not-hour-alone : (c : tie.Else1) → eqb (c .before .before .before .before .before .before .before .args .fields .count) 4 ≡ false
+not-hour-alone c = ne-eqb (c .before .before .before .before .before .before .before .args .fields .count) 4 (omega (arith, c .if1 .left))
+
 read-decimal-requires : tie.Need-read-decimal-requires
 read-decimal-requires c κs = search needs
 
@@ -41,8 +45,9 @@ returns : tie.Need-returns
 unfolding withDecimal withFraction judged hourAlone tooWide
 returns c =
     let n = c .before .before .before .before in
+    let f = n .before .before .before .before .args .fields in
     rw
-    (c .refused .ensures, split (n .before .before) (n .exponent-negative .given .1), eq-eqb _ _ (c .before .if1 .taken))
+    (c .refused .ensures, split (n .before .before) (n .exponent-negative .given .1), eq-eqb (f .count) 4 (omega (arith, c .before .if1 .taken)))
 
 read-magnitude-requires : tie.Need-read-magnitude-requires
 read-magnitude-requires c κs =
@@ -73,7 +78,7 @@ returns-2 c =
     let h = magnitude-held _ _ (sym (m .read-magnitude .ensures) ∙ c .before .before .coefficient .given .1) in
     c .answer-in-range .ensures
     ∙ rw
-    (split (n .before .before) (n .exponent-negative .given .1), ne-eqb _ _ (m .before .if1 .left), h .0, h .1)
+    (split (n .before .before) (n .exponent-negative .given .1), not-hour-alone (m .before), h .0, h .1)
 
 returns-3 : tie.Need-returns-3
 unfolding withDecimal withFraction judged hourAlone tooWide
@@ -81,7 +86,7 @@ returns-3 c =
     let m = c .before .before .before in
     let n = m .before .before .before .before in
     rw
-    (c .refused2 .ensures, split (n .before .before) (n .exponent-negative .given .1), ne-eqb _ _ (m .before .if1 .left), magnitude-long _ (sym (m .read-magnitude .ensures) ∙ c .before .enum-told .given .1))
+    (c .refused2 .ensures, split (n .before .before) (n .exponent-negative .given .1), not-hour-alone (m .before), magnitude-long _ (sym (m .read-magnitude .ensures) ∙ c .before .enum-told .given .1))
 
 returns-4 : tie.Need-returns-4
 unfolding withDecimal

@@ -6,6 +6,7 @@ use borrow.Author.Tests.{le-ltb, lt-ltb}
 use mathlib.Core.Path.{_≡_, _∙_, sym, ap}
 use mathlib.Core.Bool.{false}
 use Prim.Native.Nat.{_≤_, _<_}
+use lib.Dec.{ltb}
 use lib.ListN.{length}
 use Rattle.numbers.specs.Outcome.{outsideOf}
 use Rattle.numbers.proofs.Outcomes.{inside-order, inside-end}
@@ -19,6 +20,10 @@ use Rattle.values.proofs.value.value_in.Tie as tie
 -- past the first test the limit is in its range
 ranged : (c : tie.Else1) → outOfRange (c .before .before .before .args .limit) ≡ false
 ranged c = sym (c .before .out-of-range .ensures) ∙ c .if1 .left
+
+-- past the second test the value stands in the part
+not-before : (c : tie.Else2) → let a = c .before .before .before .before .args in ltb (a .at) (a .start) ≡ false
+not-before c = let a = c .before .before .before .before .args in le-ltb (a .at) (a .start) (omega (arith, c .if2 .left))
 
 -- past the third test at..end is a part of the slice
 fit : (c : tie.Else3) → let a = c .before .before .before .before .before .before .args in outsideOf (a .s .now) (a .at) (a .end) ≡ false
@@ -44,7 +49,9 @@ no-value-requires-2 c κs = search needs
 
 returns-2 : tie.Need-returns-2
 unfolding valueIn
-returns-2 c = rw (ranged (c .before .before), lt-ltb _ _ (c .before .if2 .taken)) (c .no-value2 .ensures)
+returns-2 c =
+    let a = c .before .before .before .before .before .args in
+    rw (ranged (c .before .before), lt-ltb (a .at) (a .start) (omega (arith, c .before .if2 .taken))) (c .no-value2 .ensures)
 
 outside-requires : tie.Need-outside-requires
 outside-requires c κs = search needs
@@ -57,7 +64,7 @@ unfolding valueIn
 returns-3 c =
     let d = c .before .before in
     let a = d .before .before .before .before .before .args in
-    rw (ranged (d .before .before), le-ltb _ _ (d .before .if2 .left))
+    rw (ranged (d .before .before), not-before (d .before))
     (c .no-value3 .ensures ∙ sym (value-outside (a .limit) (a .s .now) (a .at) (a .end) (sym (d .outside .ensures) ∙ c .before .if3 .taken)))
 
 no-value-requires-4 : tie.Need-no-value-requires-4
@@ -68,7 +75,7 @@ unfolding valueIn
 returns-4 c =
     let e = c .before .before in
     let a = e .before .before .before .before .before .before .args in
-    rw (ranged (e .before .before .before), le-ltb _ _ (e .before .before .if2 .left))
+    rw (ranged (e .before .before .before), not-before (e .before .before))
     (c .no-value4 .ensures ∙ sym (value-at-end (a .limit) (a .s .now) (a .at) (a .end) (fit e) (c .before .if4 .taken)))
 
 shared-slice-read-if5 : tie.Need-shared-slice-read-if5
@@ -86,7 +93,7 @@ returns-5 c =
     let f = c .before .before .before in
     let e = f .before in
     let a = e .before .before .before .before .before .before .args in
-    rw (ranged (e .before .before .before), le-ltb _ _ (e .before .before .if2 .left))
+    rw (ranged (e .before .before .before), not-before (e .before .before))
     (c .no-value5 .ensures ∙ sym (value-at-pad (a .limit) (a .s .now) (a .at) (a .end) (fit e) (f .if4 .left) (c .before .if5 .taken)))
 
 item-at-requires : tie.Need-item-at-requires
@@ -102,7 +109,7 @@ returns-6 c =
     let f = g .before .before in
     let e = f .before in
     let a = e .before .before .before .before .before .before .args in
-    rw (ranged (e .before .before .before), le-ltb _ _ (e .before .before .if2 .left))
+    rw (ranged (e .before .before .before), not-before (e .before .before))
     (c .value-of .ensures
     ∙ ap (valueFrom (a .at)) (c .before .item-at .ensures)
     ∙ value-stepped (a .limit) (a .s .now) (a .at) (a .end) (ranged (e .before .before .before)) (omega (arith, in-part e .0, f .if4 .left)) (in-part e .1) (g .if5 .left))
