@@ -2,6 +2,7 @@
 -- Assumes nothing.
 use borrow.Author.Needs.{needs}
 use borrow.Author.Tests.{lt-ltb, le-ltb}
+use native.Mathlib.Omega.{arith}
 use mathlib.Core.Path.{_≡_, _∙_, sym, ap}
 use mathlib.Core.Bool.{false}
 use Rattle.framing.specs.Limits.{outOfRange}
@@ -40,7 +41,7 @@ returns-3 : tie.Need-returns-3
 unfolding exportedBounded
 returns-3 c =
     let t = c .before in
-    c .outside-words2 .ensures ∙ sym (rw (ranged (t .before .before), le-ltb _ _ (t .before .if2 .left), lt-ltb _ _ (t .if3 .taken)))
+    c .outside-words2 .ensures ∙ sym (rw (ranged (t .before .before), le-ltb _ _ (t .before .if2 .left), lt-ltb 2 (t .before .before .before .before .before .args .kind) (omega (arith, t .if3 .taken))))
 
 rules-of-requires : tie.Need-rules-of-requires
 rules-of-requires c κs = search needs
@@ -60,7 +61,7 @@ returns-4 c =
     let a = t .before .before .before .before .before .args in
     c .bounded-words .ensures
     ∙ ap boundedWords (b .bounded-at .ensures ∙ ap (λ (x : Rules). bounded (a .limit) (a .most) x (a .map .now) (cursor (a .position) (a .end))) (r .rules-of .ensures))
-    ∙ sym (rw (ranged (t .before .before), le-ltb _ _ (t .before .if2 .left), le-ltb _ _ (t .if3 .left)))
+    ∙ sym (rw (ranged (t .before .before), le-ltb _ _ (t .before .if2 .left), le-ltb 2 (a .kind) (omega (arith, t .if3 .left))))
 
 pub bounded-by-kind-spec : {M : Type 1} → statement M
 bounded-by-kind-spec =

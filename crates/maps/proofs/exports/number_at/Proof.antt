@@ -1,6 +1,7 @@
 -- `number_at` meets its contract: 50 before the part or for a form above 2, else the number.
 -- Assumes nothing.
 use borrow.Author.Tests.{lt-ltb, le-ltb}
+use native.Mathlib.Omega.{arith}
 use Rattle.maps.specs.Exported.{exportedNumber}
 use borrow.Author.Needs.{needs}
 use Rattle.maps.proofs.exports.number_at.Statement.{statement}
@@ -18,14 +19,18 @@ outside-words-requires-2 c κs = search needs
 
 returns-2 : tie.Need-returns-2
 unfolding exportedNumber
-returns-2 c = rw (le-ltb _ _ (c .before .before .if1 .left), lt-ltb _ _ (c .before .if2 .taken)) (c .outside-words2 .ensures)
+returns-2 c =
+    let a = c .before .before .before .before .args in
+    rw (le-ltb _ _ (c .before .before .if1 .left), lt-ltb 2 (a .form) (omega (arith, c .before .if2 .taken))) (c .outside-words2 .ensures)
 
 number-by-requires : tie.Need-number-by-requires
 number-by-requires c κs = search needs
 
 returns-3 : tie.Need-returns-3
 unfolding exportedNumber
-returns-3 c = rw (le-ltb _ _ (c .before .before .if1 .left), le-ltb _ _ (c .before .if2 .left)) (c .number-by .ensures)
+returns-3 c =
+    let a = c .before .before .before .before .args in
+    rw (le-ltb _ _ (c .before .before .if1 .left), le-ltb 2 (a .form) (omega (arith, c .before .if2 .left))) (c .number-by .ensures)
 
 pub number-at-spec : {M : Type 1} → statement M
 number-at-spec =

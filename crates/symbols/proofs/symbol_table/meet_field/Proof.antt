@@ -2,9 +2,16 @@
 -- Assumes nothing.
 use borrow.Author.Needs.{needs}
 use borrow.Author.Tests.{eq-eqb, ne-eqb}
+use native.Mathlib.Omega.{arith}
+use mathlib.Core.Path.{_≡_}
+use mathlib.Core.Bool.{false}
+use lib.Dec.{eqb}
 use Rattle.symbols.specs.Text.{onField}
 use Rattle.symbols.proofs.symbol_table.meet_field.Statement.{statement}
 use Rattle.symbols.proofs.symbol_table.meet_field.Tie as tie
+
+no-imports : (c : tie.Else1) → eqb (c .before .before .item .given .0 .0) 6 ≡ false
+no-imports c = ne-eqb (c .before .before .item .given .0 .0) 6 (omega (arith, c .if1 .left))
 
 enum-told : tie.Need-enum-told
 enum-told c = search needs
@@ -23,11 +30,13 @@ refused-requires c κs = search needs
 
 returns : tie.Need-returns
 unfolding onField
-returns c = rw (c .before .before .before .item .given .1, eq-eqb _ _ (c .before .if1 .taken)) (c .refused .ensures)
+returns c =
+    let i = c .before .before .before .item .given in
+    rw (i .1, eq-eqb (i .0 .0) 6 (omega (arith, c .before .if1 .taken))) (c .refused .ensures)
 
 returns-2 : tie.Need-returns-2
 unfolding onField
-returns-2 c = rw (c .before .before .before .item .given .1, ne-eqb _ _ (c .before .if1 .left), ne-eqb _ _ (c .if2 .taken))
+returns-2 c = rw (c .before .before .before .item .given .1, no-imports (c .before), ne-eqb _ _ (c .if2 .taken))
 
 refused-requires-2 : tie.Need-refused-requires-2
 refused-requires-2 c κs = search needs
@@ -35,7 +44,7 @@ refused-requires-2 c κs = search needs
 returns-3 : tie.Need-returns-3
 unfolding onField
 returns-3 c =
-    rw (c .before .before .before .before .before .item .given .1, ne-eqb _ _ (c .before .before .before .if1 .left), eq-eqb _ _ (c .before .before .if2 .left), c .before .if3 .taken) (c .refused2 .ensures)
+    rw (c .before .before .before .before .before .item .given .1, no-imports (c .before .before .before), eq-eqb _ _ (c .before .before .if2 .left), c .before .if3 .taken) (c .refused2 .ensures)
 
 list-of-requires : tie.Need-list-of-requires
 list-of-requires c κs = search needs
@@ -58,7 +67,7 @@ returns-6 c = rw (c .enum-told3 .given .1)
 returns-7 : tie.Need-returns-7
 unfolding onField
 returns-7 c =
-    rw (c .before .before .before .before .before .item .given .1, ne-eqb _ _ (c .before .before .before .if1 .left), eq-eqb _ _ (c .before .before .if2 .left), c .before .if3 .left, c .list-of .ensures)
+    rw (c .before .before .before .before .before .item .given .1, no-imports (c .before .before .before), eq-eqb _ _ (c .before .before .if2 .left), c .before .if3 .left, c .list-of .ensures)
 
 returns-8 : tie.Need-returns-8
 returns-8 c = rw (c .before .item2 .given .1)

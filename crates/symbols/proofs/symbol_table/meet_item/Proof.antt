@@ -2,6 +2,7 @@
 -- Assumes nothing.
 use borrow.Author.Needs.{needs}
 use borrow.Author.Tests.{eq-eqb, ne-eqb, lt-ltb, le-ltb}
+use native.Mathlib.Omega.{arith}
 use Rattle.symbols.specs.Text.{onStream}
 use Rattle.symbols.proofs.symbol_table.meet_item.Statement.{statement}
 use Rattle.symbols.proofs.symbol_table.meet_item.Tie as tie
@@ -42,7 +43,12 @@ passed-requires-3 c κs = search needs
 
 returns-5 : tie.Need-returns-5
 unfolding onStream
-returns-5 c = rw (c .before .before .before .before .before .before .item3 .given .1, ne-eqb _ _ (c .before .before .before .if4 .left), lt-ltb _ _ (c .before .if5 .taken)) (c .passed3 .ensures)
+returns-5 c =
+    let i = c .before .before .before .before .before .before in
+    let v = i .item3 .given .0 .0 in
+    rw
+    (i .item3 .given .1, ne-eqb _ _ (c .before .before .before .if4 .left), lt-ltb (i .before .before .before .args .place) (v .end) (omega (arith, c .before .if5 .taken)))
+    (c .passed3 .ensures)
 
 pass-value-requires : tie.Need-pass-value-requires
 pass-value-requires c κs = search needs
@@ -66,7 +72,12 @@ returns-7 c = rw (c .before .before .before .item2 .given .1, ne-eqb _ _ (c .bef
 
 returns-8 : tie.Need-returns-8
 unfolding onStream
-returns-8 c = rw (c .before .before .before .before .before .before .item3 .given .1, ne-eqb _ _ (c .before .before .before .if4 .left), le-ltb _ _ (c .before .if5 .left)) (c .pass-value .ensures)
+returns-8 c =
+    let i = c .before .before .before .before .before .before in
+    let v = i .item3 .given .0 .0 in
+    rw
+    (i .item3 .given .1, ne-eqb _ _ (c .before .before .before .if4 .left), le-ltb (i .before .before .before .args .place) (v .end) (omega (arith, c .before .if5 .left)))
+    (c .pass-value .ensures)
 
 returns-9 : tie.Need-returns-9
 unfolding onStream

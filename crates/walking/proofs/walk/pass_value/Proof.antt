@@ -2,6 +2,7 @@
 -- Assumes nothing.
 use borrow.Author.Tests.{eq-eqb, ne-eqb, not-true, not-false}
 use native.Mathlib.Numerals.{add-one}
+use native.Mathlib.Omega.{arith}
 use mathlib.Core.Path.{refl, _∙_, sym}
 use Rattle.walking.specs.Calls.{stateAfterValue}
 use borrow.Author.Needs.{needs}
@@ -18,7 +19,9 @@ returns c = rw (sym (c .before .is-container .ensures) ∙ not-true _ (c .if1 .t
 returns-2 : tie.Need-returns-2
 unfolding stateAfterValue
 returns-2 c =
-    rw (sym (c .before .before .is-container .ensures) ∙ not-false _ (c .before .if1 .left), eq-eqb _ _ (c .if2 .taken))
+    let a = c .before .before .before .args in
+    rw
+    (sym (c .before .before .is-container .ensures) ∙ not-false _ (c .before .if1 .left), eq-eqb (a .depth) (a .deepest) (omega (arith, c .if2 .taken)))
 
 add-inner : tie.Need-add-inner
 add-inner c = search needs
@@ -36,7 +39,10 @@ returns-3 : tie.Need-returns-3
 unfolding stateAfterValue
 returns-3 c =
     let d = c .before in
-    rw (sym (d .before .before .is-container .ensures) ∙ not-false _ (d .before .if1 .left), ne-eqb _ _ (d .if2 .left), add-one (d .before .before .before .args .depth)) refl
+    let a = d .before .before .before .args in
+    rw
+    (sym (d .before .before .is-container .ensures) ∙ not-false _ (d .before .if1 .left), ne-eqb (a .depth) (a .deepest) (omega (arith, d .if2 .left)), add-one (a .depth))
+    refl
 
 pub pass-value-spec : {M : Type 1} → statement M
 pass-value-spec =
