@@ -1,0 +1,11 @@
+-- `more_words` meets its contract: its words are the definition's, one for one.
+-- Assumes nothing.
+use mathlib.Core.Path.{refl}
+use Rattle.records.proofs.words.more_words.Statement.{statement}
+use Rattle.records.proofs.words.more_words.Tie as tie
+
+returns : tie.Need-returns
+returns c = refl
+
+pub more-words-spec : {M : Type 1} → statement M
+more-words-spec = tie.close (tie.spec returns)

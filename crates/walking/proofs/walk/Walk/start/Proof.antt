@@ -1,0 +1,15 @@
+-- `start` meets its contract: the first part ends with the map, and no part is a struct's.
+-- Assumes nothing.
+use borrow.Author.Needs.{needs}
+use mathlib.Core.Path.{refl}
+use Rattle.walking.proofs.walk.Walk.start.Statement.{statement}
+use Rattle.walking.proofs.walk.Walk.start.Tie as tie
+
+array-write-ends : tie.Need-array-write-ends
+array-write-ends c = search needs
+
+returns : tie.Need-returns
+returns c = refl
+
+pub start-spec : {M : Type 1} → statement M
+start-spec = tie.close (tie.spec array-write-ends returns)
