@@ -1,4 +1,4 @@
--- `start` meets its contract: the first part ends with the map, and no part is a struct's.
+-- `start` meets its contract: its state is the definition's.
 -- Assumes nothing.
 use borrow.Author.Needs.{needs}
 use mathlib.Core.Path.{refl}
