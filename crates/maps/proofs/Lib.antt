@@ -2,3 +2,4 @@ pub mod Within
 pub mod ManySteps
 pub mod RunsOfCalls
 pub mod RecordsBegin
+pub mod Writing

@@ -2,3 +2,4 @@ pub mod Exported
 pub mod Steps
 pub mod Theorems
 pub mod Private
+pub mod Writes

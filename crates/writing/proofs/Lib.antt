@@ -5,3 +5,6 @@ pub mod ChecksMoved
 pub mod Lengths
 pub mod Pads
 pub mod Stages
+pub mod PadsBack
+pub mod OneByte
+pub mod Back

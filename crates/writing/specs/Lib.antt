@@ -1,4 +1,5 @@
 pub mod Things
 pub mod Answers
 pub mod Read
+pub mod Theorems
 pub mod Private

@@ -1,0 +1,70 @@
+-- `ion_map_write_int` meets its contract: 51, 50 for a flag that is none, and else what is written and its record.
+-- Assumes nothing.
+use borrow.Author.Needs.{needs}
+use Prim.Native.Nat.{ℕ}
+use native.Mathlib.Omega.{arith}
+use mathlib.Core.Path.{refl, _∙_, sym, ap}
+use mathlib.Core.List.{List}
+use lib.ListN.{length}
+use lib.Dec.{eqb}
+use Rattle.writing.specs.Things.{null, bool, int, float, symbol, scalar, pad, container, wrapper, written}
+use Rattle.writing.specs.Answers.{writeOf, limitedWrite, bufferAfter}
+use Rattle.writing.specs.Read.{writtenRead}
+use Rattle.maps.specs.Writes.{writeWords, flagged}
+use Rattle.maps.proofs.Writing.{write-returned, no-record, wrote, flag-out, flag-in}
+use Rattle.maps.proofs.writes.ion_map_write_int.Statement.{statement}
+use Rattle.maps.proofs.writes.ion_map_write_int.Tie as tie
+
+returns : tie.Need-returns
+returns c = 
+    let a = c .before .before .before .before .args in
+    λ limit deepest. no-record (flagged (a .negative) (writeOf limit deepest (int (eqb (a .negative) 1) (a .magnitude .now)) (length (a .to .now)))) (written (int (eqb (a .negative) 1) (a .magnitude .now))) (a .to .now) (a .out .now) (c .if1 .taken)
+
+outside-requires : tie.Need-outside-requires
+outside-requires c κs = search needs
+
+put-written-requires : tie.Need-put-written-requires
+put-written-requires c κs = search needs
+
+same-length : tie.Need-same-length
+same-length c = search needs
+
+returns-2 : tie.Need-returns-2
+returns-2 c = 
+    let p = c .before .before in
+    let a = c .before .before .before .before .before .before .before .before .before .before .args in
+    λ limit deepest. wrote (flagged (a .negative) (writeOf limit deepest (int (eqb (a .negative) 1) (a .magnitude .now)) (length (a .to .now)))) (written (int (eqb (a .negative) 1) (a .magnitude .now))) (a .to .now) (a .to .now) (a .out .now) (p .put-written .last .0) (p .put-written .result) (omega (arith, c .before .before .before .before .before .before .if1 .left)) (p .before .outside .ensures ∙ flag-out (a .negative) (writeOf limit deepest (int (eqb (a .negative) 1) (a .magnitude .now)) (length (a .to .now))) (c .before .before .before .before .before .if2 .taken)) (p .put-written .ensures .0) (p .put-written .ensures .1) (sym (ap (bufferAfter (written (int (eqb (a .negative) 1) (a .magnitude .now))) (a .to .now)) (p .before .outside .ensures)))
+
+write-int-requires : tie.Need-write-int-requires
+write-int-requires c κs = search needs
+
+put-written-requires-2 : tie.Need-put-written-requires-2
+put-written-requires-2 c κs = search needs
+
+same-length-2 : tie.Need-same-length-2
+same-length-2 c = search needs
+
+same-length-3 : tie.Need-same-length-3
+same-length-3 c = search needs
+
+returns-3 : tie.Need-returns-3
+returns-3 c = 
+    let p = c .before .before in
+    let q = c .before .before .before .before .before in
+    let a = c .before .before .before .before .before .before .before .before .before .before .before .before .before .args in
+    λ limit deepest. wrote (flagged (a .negative) (writeOf limit deepest (int (eqb (a .negative) 1) (a .magnitude .now)) (length (a .to .now)))) (written (int (eqb (a .negative) 1) (a .magnitude .now))) (a .to .now) (q .write-int .last .1 .1 .0) (a .out .now) (p .put-written2 .last .0) (p .put-written2 .result) (omega (arith, c .before .before .before .before .before .before .before .before .before .if1 .left)) (q .write-int .ensures .0 limit deepest ∙ flag-in (a .negative) (writeOf limit deepest (int (eqb (a .negative) 1) (a .magnitude .now)) (length (a .to .now))) (omega (arith, c .before .before .before .before .before .before .before .before .if2 .left))) (p .put-written2 .ensures .0) (p .put-written2 .ensures .1) (q .write-int .ensures .1)
+
+pub ion-map-write-int-spec : {M : Type 1} → statement M
+ion-map-write-int-spec =
+    tie.close
+    (tie.spec
+    returns
+    outside-requires
+    put-written-requires
+    same-length
+    returns-2
+    write-int-requires
+    put-written-requires-2
+    same-length-2
+    same-length-3
+    returns-3)
