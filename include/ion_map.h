@@ -611,6 +611,83 @@ uint64_t ion_map_packed_size(const uint8_t *map, size_t map_len, size_t annotati
 }
 #endif
 
-/* ======================================= End of part 4 ======================================= */
+/* ======================================= Part 5: writing values ======================================= */
+
+/* Each function writes one thing at the start of the buffer `to` and answers how many bytes it has; what is behind
+   them in `to` stays. On any refusal `to` is left as it was. A map is made from the inside out: what stands in a
+   container is written one behind the other, then the container around those bytes. A struct's fields are each a
+   field ID, a VarUInt, and a value.
+
+   `to`, `out` and the lent bytes do not overlap. The order of the refusals: 51 (nothing is written to either
+   buffer), 68, 50, 71, then the reader's own (any of parts 1 and 2: what ion_map_check would refuse of the thing as
+   a map; its position counts in the lent bytes then read, and is 0 for a descriptor that would be written), 70. */
+
+/* Kind of the record of part 5, beside ION_MAP_KIND_REFUSED: word 3 is the length; the others are 0. */
+enum {
+    ION_MAP_KIND_WRITTEN = 17
+};
+
+enum {
+    ION_MAP_WRITTEN_LENGTH = 3
+};
+
+/* The type codes of what is written; those of ints are 2 and 3, of which a null's is 2. */
+enum {
+    ION_MAP_TYPE_NULL = 0,
+    ION_MAP_TYPE_BOOL = 1,
+    ION_MAP_TYPE_INT = 2,
+    ION_MAP_TYPE_FLOAT = 4,
+    ION_MAP_TYPE_DECIMAL = 5,
+    ION_MAP_TYPE_TIMESTAMP = 6,
+    ION_MAP_TYPE_SYMBOL = 7,
+    ION_MAP_TYPE_STRING = 8,
+    ION_MAP_TYPE_CLOB = 9,
+    ION_MAP_TYPE_BLOB = 10,
+    ION_MAP_TYPE_LIST = 11,
+    ION_MAP_TYPE_SEXP = 12,
+    ION_MAP_TYPE_STRUCT = 13
+};
+
+/* Refusals that only the functions of part 5 give. */
+enum {
+    ION_MAP_REFUSAL_NO_ROOM_TO_WRITE = 70, /* `to` is too short, tested last - how many bytes are needed */
+    ION_MAP_REFUSAL_NO_SUCH_LENGTH = 71    /* a pad of size 0, or a length past nine VarUInt bytes - 0 */
+};
+
+#ifdef __cplusplus
+extern "C" {
+#endif
+
+/* A null of a type, 0 to 13 (else 50). */
+uint64_t ion_map_write_null(size_t type, uint8_t *to, size_t to_len, uint8_t *out, size_t out_len);
+/* A bool: 0 or 1 (else 50). */
+uint64_t ion_map_write_bool(uint64_t value, uint8_t *to, size_t to_len, uint8_t *out, size_t out_len);
+/* An int by its magnitude, the most significant byte first, of any length; leading zero bytes are not written. It is
+   negative where `negative` is 1 (0 or 1, else 50); a negative zero is refused with 34. */
+uint64_t ion_map_write_int(const uint8_t *magnitude, size_t magnitude_len, uint64_t negative, uint8_t *to,
+                           size_t to_len, uint8_t *out, size_t out_len);
+/* The float with these 64 bits, in eight bytes; positive zero in none. */
+uint64_t ion_map_write_float(uint64_t bits, uint8_t *to, size_t to_len, uint8_t *out, size_t out_len);
+/* A symbol by its ID. */
+uint64_t ion_map_write_symbol(uint64_t id, uint8_t *to, size_t to_len, uint8_t *out, size_t out_len);
+/* A pad of this total size, from 1 up. Its body is zeros. */
+uint64_t ion_map_write_pad(size_t size, uint8_t *to, size_t to_len, uint8_t *out, size_t out_len);
+/* A decimal, a timestamp, a string, a clob or a blob (types 5, 6, 8, 9, 10, else 50) by its representation. */
+uint64_t ion_map_write_scalar(size_t type, const uint8_t *body, size_t body_len, uint8_t *to, size_t to_len,
+                              uint8_t *out, size_t out_len);
+/* A list, a sexp or an unordered struct (types 11, 12, 13, else 50) around a body that is written. It stands at depth
+   0, what is in it at depth 1. */
+uint64_t ion_map_write_container(size_t type, const uint8_t *body, size_t body_len, size_t annotations, size_t depth,
+                                 uint8_t *to, size_t to_len, uint8_t *out, size_t out_len);
+/* A wrapper of annotation IDs, one VarUInt behind the other, around one value that is written. */
+uint64_t ion_map_write_wrapper(const uint8_t *annotation_bytes, size_t annotation_len, const uint8_t *value,
+                               size_t value_len, size_t annotations, size_t depth, uint8_t *to, size_t to_len,
+                               uint8_t *out, size_t out_len);
+
+#ifdef __cplusplus
+}
+#endif
+
+/* ======================================= End of part 5 ======================================= */
 
 #endif

@@ -2,4 +2,3 @@ pub mod Within
 pub mod ManySteps
 pub mod RunsOfCalls
 pub mod RecordsBegin
-pub mod Writing

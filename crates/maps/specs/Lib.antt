@@ -2,4 +2,3 @@ pub mod Exported
 pub mod Steps
 pub mod Theorems
 pub mod Private
-pub mod Writes

@@ -10,10 +10,10 @@ use lib.Dec.{eqb}
 use Rattle.writing.specs.Things.{null, bool, int, float, symbol, scalar, pad, container, wrapper, written}
 use Rattle.writing.specs.Answers.{writeOf, limitedWrite}
 use Rattle.writing.specs.Read.{writtenRead}
-use Rattle.maps.specs.Writes.{writeWords, flagged}
-use Rattle.maps.proofs.Writing.{write-returned, no-record, wrote, flag-out, flag-in}
-use Rattle.maps.proofs.writes.ion_map_write_scalar.Statement.{statement}
-use Rattle.maps.proofs.writes.ion_map_write_scalar.Tie as tie
+use Rattle.writes.specs.Writes.{writeWords, flagged}
+use Rattle.writes.proofs.Writing.{write-returned, no-record, wrote, flag-out, flag-in}
+use Rattle.writes.proofs.exports.ion_map_write_scalar.Statement.{statement}
+use Rattle.writes.proofs.exports.ion_map_write_scalar.Tie as tie
 
 returns : tie.Need-returns
 returns c = 

@@ -4,9 +4,9 @@ use borrow.Author.Needs.{needs}
 use mathlib.Core.Path.{refl, _∙_, sym, ap}
 use Rattle.writing.specs.declared.written.Written.{Written}
 use Rattle.writing.specs.Read.{writtenRead}
-use Rattle.maps.specs.Writes.{writeWords}
-use Rattle.maps.proofs.writes.written_words.Statement.{statement}
-use Rattle.maps.proofs.writes.written_words.Tie as tie
+use Rattle.writes.specs.Writes.{writeWords}
+use Rattle.writes.proofs.exports.written_words.Statement.{statement}
+use Rattle.writes.proofs.exports.written_words.Tie as tie
 
 enum-known-answer : tie.Need-enum-known-answer
 enum-known-answer c = search needs

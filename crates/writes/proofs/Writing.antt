@@ -9,7 +9,7 @@ use lib.Dec.{ltb}
 use Rattle.numbers.specs.Outcome.{Outcome, gives, refuses, pick, refuseIf}
 use Rattle.writing.specs.Answers.{bufferAfter}
 use Rattle.records.specs.Buffer.{recordSize, recordIn, numberOf, numberIn, returned, returnedBy}
-use Rattle.maps.specs.Writes.{writeWords, flagged, Wrote}
+use Rattle.writes.specs.Writes.{writeWords, flagged, Wrote}
 
 pub write-number : (o : Outcome ℕ) → numberIn (writeWords o) ≡ numberOf o
 unfolding numberIn

@@ -8,7 +8,7 @@ ghost use Rattle.records.specs.Buffer.{recordIn, returned};
 ghost use Rattle.writing.specs.Things.{null, bool, int, float, symbol, scalar, pad, container, wrapper, written};
 ghost use Rattle.writing.specs.Answers.{writeOf, limitedWrite};
 ghost use Rattle.writing.specs.Read.{writtenRead};
-ghost use Rattle.maps.specs.Writes.{writeWords, flagged, Wrote};
+ghost use Rattle.writes.specs.Writes.{writeWords, flagged, Wrote};
 use numbers::refusal::OUTSIDE;
 use numbers::refusal::RECORD_TOO_SHORT;
 use numbers::refusal::Refusal;

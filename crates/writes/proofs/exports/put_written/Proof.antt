@@ -6,9 +6,9 @@ use mathlib.Core.Path.{_∙_, ap}
 use mathlib.Core.List.{List}
 use Rattle.writing.specs.Read.{writtenRead}
 use Rattle.records.specs.Buffer.{recordIn, returnedBy}
-use Rattle.maps.proofs.Writing.{write-returned}
-use Rattle.maps.proofs.writes.put_written.Statement.{statement}
-use Rattle.maps.proofs.writes.put_written.Tie as tie
+use Rattle.writes.proofs.Writing.{write-returned}
+use Rattle.writes.proofs.exports.put_written.Statement.{statement}
+use Rattle.writes.proofs.exports.put_written.Tie as tie
 
 written-words-requires : tie.Need-written-words-requires
 written-words-requires c κs = search needs

@@ -1,0 +1,2 @@
+// The functions that other languages call to write values.
+pub mod exports;
