@@ -41,7 +41,9 @@ returns-3 : tie.Need-returns-3
 unfolding exportedBounded
 returns-3 c =
     let t = c .before in
-    c .outside-words2 .ensures ∙ sym (rw (ranged (t .before .before), le-ltb _ _ (t .before .if2 .left), lt-ltb 2 (t .before .before .before .before .before .args .kind) (omega (arith, t .if3 .taken))))
+    let a = t .before .before .before .before .before .args in
+    c .outside-words2 .ensures
+    ∙ sym (rw (ranged (t .before .before), le-ltb _ _ (t .before .if2 .left), lt-ltb 2 (a .kind) (omega (arith, t .if3 .taken))))
 
 rules-of-requires : tie.Need-rules-of-requires
 rules-of-requires c κs = search needs

@@ -79,7 +79,8 @@ returns-3 c =
     let q = c .before .before .before .before .before in
     let a = q .before .before .before .args in
     let v = spansOf (c .before .before .before .value .given .0 .0) in
-    c .entry-text .ensures ∙ ends q (entryText (a .s .now) v) (c .before .before .before .value .given .1) (rw (eq-eqb (q .before .loop .left) 0 (omega (arith, c .before .if1 .taken))))
+    let e : q .before .loop .left ≡ 0 = omega (arith, c .before .if1 .taken) in
+    c .entry-text .ensures ∙ ends q (entryText (a .s .now) v) (c .before .before .before .value .given .1) (rw (eq-eqb _ _ e))
 
 sub-left : tie.Need-sub-left Inv-loop μ-loop
 sub-left c = search needs

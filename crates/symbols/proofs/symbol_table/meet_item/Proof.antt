@@ -45,9 +45,10 @@ returns-5 : tie.Need-returns-5
 unfolding onStream
 returns-5 c =
     let i = c .before .before .before .before .before .before in
+    let place = i .before .before .before .args .place in
     let v = i .item3 .given .0 .0 in
     rw
-    (i .item3 .given .1, ne-eqb _ _ (c .before .before .before .if4 .left), lt-ltb (i .before .before .before .args .place) (v .end) (omega (arith, c .before .if5 .taken)))
+    (i .item3 .given .1, ne-eqb _ _ (c .before .before .before .if4 .left), lt-ltb place (v .end) (omega (arith, c .before .if5 .taken)))
     (c .passed3 .ensures)
 
 pass-value-requires : tie.Need-pass-value-requires
@@ -74,9 +75,10 @@ returns-8 : tie.Need-returns-8
 unfolding onStream
 returns-8 c =
     let i = c .before .before .before .before .before .before in
+    let place = i .before .before .before .args .place in
     let v = i .item3 .given .0 .0 in
     rw
-    (i .item3 .given .1, ne-eqb _ _ (c .before .before .before .if4 .left), le-ltb (i .before .before .before .args .place) (v .end) (omega (arith, c .before .if5 .left)))
+    (i .item3 .given .1, ne-eqb _ _ (c .before .before .before .if4 .left), le-ltb place (v .end) (omega (arith, c .before .if5 .left)))
     (c .pass-value .ensures)
 
 returns-9 : tie.Need-returns-9

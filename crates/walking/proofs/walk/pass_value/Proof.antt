@@ -39,9 +39,10 @@ returns-3 : tie.Need-returns-3
 unfolding stateAfterValue
 returns-3 c =
     let d = c .before in
-    let a = d .before .before .before .args in
+    let q = d .before .before in
+    let a = q .before .args in
     rw
-    (sym (d .before .before .is-container .ensures) ∙ not-false _ (d .before .if1 .left), ne-eqb (a .depth) (a .deepest) (omega (arith, d .if2 .left)), add-one (a .depth))
+    (sym (q .is-container .ensures) ∙ not-false _ (d .before .if1 .left), ne-eqb (a .depth) (a .deepest) (omega (arith, d .if2 .left)), add-one (a .depth))
     refl
 
 pub pass-value-spec : {M : Type 1} → statement M
