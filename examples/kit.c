@@ -308,7 +308,22 @@ static void check_packed(void)
     };
     static const words size = {ION_MAP_KIND_PACKED_SIZE, 0, 0, 12, 0, 0, 0, 0, 0};
     static const words refused = {ION_MAP_KIND_REFUSED, ION_MAP_REFUSAL_PAD_CUT, 19, 0, 0, 0, 0, 0, 0};
+    static const words written = {ION_MAP_KIND_PACKED, 0, 0, 12, 0, 0, 0, 0, 0};
+    static const words no_room = {ION_MAP_KIND_REFUSED, ION_MAP_REFUSAL_NO_ROOM_TO_PACK, 12, 0, 0, 0, 0, 0, 0};
+    static const uint8_t expected[] = {
+        0xE0, 0x01, 0x00, 0xEA, 0xE6, 0x81, 0x84, 0xD3, 0x85, 0x21, 0x07, 0xD0, 0xAA, 0xAA
+    };
+    uint8_t packed[sizeof expected];
 
+    memset(packed, 0xAA, sizeof packed);
+    check("no room", ion_map_pack(padded, 20, LIMIT, DEPTH, packed, 11, record, sizeof record), 69);
+    check_words("no room", record, no_room);
+    check("nothing written", packed[0], 0xAA);
+    check("pack, short record", ion_map_pack(padded, 20, LIMIT, DEPTH, packed, 14, record, sizeof record - 1), 51);
+    check("nothing written", packed[0], 0xAA);
+    check("pack", ion_map_pack(padded, 20, LIMIT, DEPTH, packed, 14, record, sizeof record), 0);
+    check_words("pack", record, written);
+    check("the packed map", memcmp(packed, expected, sizeof expected) != 0, 0);
     check("packed size", ion_map_packed_size(padded, 20, LIMIT, DEPTH, record, sizeof record), 0);
     check_words("packed size", record, size);
     check("packed size of a cut map", ion_map_packed_size(padded, 19, LIMIT, DEPTH, record, sizeof record), 6);

@@ -241,6 +241,9 @@ static inline const char *ion_map_refusal_text(uint64_t number)
     case 66: return "a lent system text that isn't the nine joined";
     case 67: return "a largest number of pads of 0";
     case 68: return "a limit outside its range";
+    case 69: return "a lent buffer that is shorter than the packed map";
+    case 70: return "a lent buffer that is shorter than what is to be written";
+    case 71: return "a pad of size 0, or a length that 9 VarUInt bytes cannot tell";
     /* end of include/texts */
     default: return "a number that this header doesn't know";
     }
@@ -591,11 +594,17 @@ uint64_t ion_map_symbol_text(const uint8_t *map, size_t map_len, const uint8_t *
 
 /* Kinds of the records of part 4, beside ION_MAP_KIND_REFUSED; words 1, 2 and 4 to 8 are 0. */
 enum {
-    ION_MAP_KIND_PACKED_SIZE = 15
+    ION_MAP_KIND_PACKED_SIZE = 15,
+    ION_MAP_KIND_PACKED = 16
 };
 
 enum {
     ION_MAP_PACKED_SIZE = 3 /* how many bytes the packed map has */
+};
+
+/* Refusals that only the functions of part 4 give, beside those of parts 1 and 2. */
+enum {
+    ION_MAP_REFUSAL_NO_ROOM_TO_PACK = 69 /* packed_len under the packed map's size - that size */
 };
 
 #ifdef __cplusplus
@@ -606,6 +615,13 @@ extern "C" {
    refused as there. Record kinds: PACKED_SIZE, REFUSED. */
 uint64_t ion_map_packed_size(const uint8_t *map, size_t map_len, size_t annotations, size_t depth, uint8_t *out,
                              size_t out_len);
+
+/* Writes the packed map to `packed`, a buffer of packed_len bytes that overlaps neither the map nor the record. Its bytes
+   behind the packed map, and all of them where the call is refused, stay as they were. ion_map_check accepts the packed
+   map, with the same counts but no pads; packing it again changes nothing. Refused are, in this order: 51, 68, a map that
+   ion_map_check doesn't accept, and with 69 a buffer that is too short. Record kinds: PACKED, REFUSED. */
+uint64_t ion_map_pack(const uint8_t *map, size_t map_len, size_t annotations, size_t depth, uint8_t *packed,
+                      size_t packed_len, uint8_t *out, size_t out_len);
 
 #ifdef __cplusplus
 }

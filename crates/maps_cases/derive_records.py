@@ -55,13 +55,14 @@ REFUSALS = {
     "symbol_text": (STEPPING | {36, 66}) - {2, 7, 21, 60},
     "step_bounded": STEPPING | {67},
     "packed_size": (STEPPING - {50}) | {4, 33, 34, 35, 36, 37, 61, 62, 63},
+    "pack": (STEPPING - {50}) | {4, 33, 34, 35, 36, 37, 61, 62, 63, 69},
 }
 
-PACKED_SIZE = 15
+PACKED_SIZE, PACKED = 15, 16
 
 # How many numbers a question has before its limits.
 NUMBERS = {"step": 5, "steps": 5, "annotation": 4, "step_in": 4, "scalar": 4, "number": 6, "decimal": 3, "timestamp": 4}
-NUMBERS |= {"packed_size": 1}
+NUMBERS |= {"packed_size": 1, "pack": 2}
 NUMBERS |= {"walked": 1, "check": 1, "ids": 3, "text": 5, "symbols": 4, "symbol_text": 4, "step_bounded": 6}
 
 # ===== The records' words =====
@@ -454,6 +455,25 @@ def packed_size(data, limits):
     return record(PACKED_SIZE, 0, 0, len(packed_part(data, 0, len(data), 0, limits)), 0, 0, 0, 0)
 
 
+def pack(data, room, limits):
+    """The record, and what is then in the buffer for the packed map, of `room` bytes."""
+    lent = bytes([FILL]) * room
+    try:
+        size = packed_size(data, limits)[3]
+        refuse_if(size > room, 69, size)
+    except Refused as refused:
+        return record(REFUSED, refused.number, refused.position), lent
+    return record(PACKED, 0, 0, size, 0, 0, 0, 0), packed_part(data, 0, len(data), 0, limits) + lent[size:]
+
+
+def pack_answer(question):
+    _, data, limits, (size, room) = parsed(question)
+    words, lent = pack(data, room, limits)
+    records = [words] if size >= RECORD_SIZE else []
+    left = lent if records else bytes([FILL]) * room
+    return " ".join([str(returned(records)), ":", left.hex().upper() or "-", *shown(records, size)])
+
+
 # ===== What a call returns and leaves =====
 
 COUNTS = {"walked": walked, "ids": ids}
@@ -541,6 +561,8 @@ def symbols_answer(question):
 def answer(question):
     if question.split(" ")[0] in OF_SYMBOLS:
         return symbols_answer(question)
+    if question.split(" ")[0] == "pack":
+        return pack_answer(question)
     name, data, limits, numbers = parsed(question)
     if name in COUNTS:
         return str(COUNTS[name](data, *numbers, limits))
@@ -617,7 +639,7 @@ def asked(question):
     if question.split(" ")[0] in OF_SYMBOLS:
         return None
     name, data, limits, numbers = parsed(question)
-    if limits != steps.SCOPE or name == "ids":
+    if limits != steps.SCOPE or name in ("ids", "packed_size", "pack"):
         return None
     text = question.split(" ")[1]
     if name == "walked":

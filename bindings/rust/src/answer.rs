@@ -26,6 +26,7 @@ pub(crate) mod kind {
     pub(crate) const TEXT: u64 = 13;
     pub(crate) const SYMBOLS: u64 = 19;
     pub(crate) const PACKED_SIZE: u64 = 15;
+    pub(crate) const PACKED: u64 = 16;
 }
 
 /// A record that is no refusal, once it was asked for. Its words are read as they are needed.

@@ -33,7 +33,7 @@ pub use decimal::{decimal, Decimal};
 pub use item::{Item, Marker, Type, Value};
 pub use limits::Limits;
 pub use number::{int, var_int, var_uint, Int, VarInt, VarUInt};
-pub use packed::packed_size;
+pub use packed::{pack, pack_into, packed_size};
 pub use part::{Part, PartKind};
 pub use refusal::Refusal;
 pub use scalar::{scalar, Scalar};

@@ -133,6 +133,16 @@ impl Limits {
         packed::packed_size_by(self, map)
     }
 
+    /// [`pack`](crate::pack) by these limits.
+    pub fn pack(self, map: &[u8]) -> Result<Vec<u8>, Refusal> {
+        packed::pack_by(self, map)
+    }
+
+    /// [`pack_into`](crate::pack_into) by these limits.
+    pub fn pack_into(self, map: &[u8], packed: &mut [u8]) -> Result<usize, Refusal> {
+        packed::pack_into_by(self, map, packed)
+    }
+
     /// [`walked`](crate::walked) by these limits; 0 where one is out of its range.
     pub fn walked(self, map: &[u8], most: u64) -> u64 {
         walk::walked_by(self, map, most)

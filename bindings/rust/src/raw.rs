@@ -162,6 +162,16 @@ extern "C" {
         out: *mut u8,
         out_len: usize,
     ) -> u64;
+    fn ion_map_pack(
+        map: *const u8,
+        map_len: usize,
+        annotations: usize,
+        depth: usize,
+        packed: *mut u8,
+        packed_len: usize,
+        out: *mut u8,
+        out_len: usize,
+    ) -> u64;
     fn ion_map_walked(map: *const u8, map_len: usize, most: u64, annotations: usize, depth: usize) -> u64;
     fn ion_map_ids(
         map: *const u8,
@@ -616,4 +626,28 @@ pub fn check(map: &[u8], annotations: usize, depth: usize, out: &mut [u8]) -> u6
 pub fn packed_size(map: &[u8], annotations: usize, depth: usize, out: &mut [u8]) -> u64 {
     // SAFETY: as in `step`.
     unsafe { ion_map_packed_size(map.as_ptr(), map.len(), annotations, depth, out.as_mut_ptr(), out.len()) }
+}
+
+/// Packs a map into `packed`: kind 16, or a refusal.
+///
+/// ```
+/// let mut record = [0; ion_map::raw::RECORD_SIZE];
+/// let mut packed = [0xAA; 3];
+/// assert_eq!(ion_map::raw::pack(&[0x2E, 0x81, 0x07, 0x00], 255, 32, &mut packed, &mut record), 0);
+/// assert_eq!((record[0], record[8 * 3], packed), (16, 2, [0x21, 0x07, 0xAA]));
+/// ```
+pub fn pack(map: &[u8], annotations: usize, depth: usize, packed: &mut [u8], out: &mut [u8]) -> u64 {
+    // SAFETY: as in `step`; the two buffers are borrowed for the call alone, so that they overlap nothing.
+    unsafe {
+        ion_map_pack(
+            map.as_ptr(),
+            map.len(),
+            annotations,
+            depth,
+            packed.as_mut_ptr(),
+            packed.len(),
+            out.as_mut_ptr(),
+            out.len(),
+        )
+    }
 }

@@ -85,6 +85,9 @@ refusals! {
     NOT_THE_SYSTEM_TEXT = 66, "a lent system text that isn't the nine joined";
     NO_PADS_ALLOWED = 67, "a largest number of pads of 0";
     LIMIT_OUT_OF_RANGE = 68, "a limit outside its range";
+    NO_ROOM_TO_PACK = 69, "a lent buffer that is shorter than the packed map";
+    NO_ROOM_TO_WRITE = 70, "a lent buffer that is shorter than what is to be written";
+    NO_SUCH_LENGTH = 71, "a pad of size 0, or a length that 9 VarUInt bytes cannot tell";
     // end of include/texts
 
     UNKNOWN_ANSWER = u64::MAX, "an answer that this crate doesn't know: the archive is another one than it was made for";

@@ -63,6 +63,9 @@ fn size_word(asked: &[u8]) -> usize {
     if check::same(asked, b"packed_size") {
         return 2;
     }
+    if check::same(asked, b"pack") {
+        return 2;
+    }
     if check::same(asked, b"decimal") {
         return 4;
     }

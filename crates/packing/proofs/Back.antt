@@ -46,7 +46,7 @@ bareAt byte at n =
       end = at + headerSize byte n + n;
     }
 
-bare-wire : (byte n : ℕ) → lengthless byte ≡ true → wireByte byte n ≡ byte
+pub bare-wire : (byte n : ℕ) → lengthless byte ≡ true → wireByte byte n ≡ byte
 unfolding wireByte
 bare-wire byte n e = rw e
 

@@ -10,3 +10,4 @@ pub mod Places
 pub mod Unrolled
 pub mod Fronts
 pub mod Buffers
+pub mod Accepted

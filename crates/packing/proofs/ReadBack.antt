@@ -113,7 +113,7 @@ module _ (limit : ℕ) (s : List ℕ) (ranged : outOfRange limit ≡ false) wher
         size = e;
       }
 
-  marker-stands : (at hi : ℕ) (rest : List ℕ) → StandsAt s at hi (224 ∷ 1 ∷ 0 ∷ 234 ∷ rest) → ItemAt s hi Stream at (marker at 1 0 (at + 4)) × StandsAt s (at + 4) hi rest
+  unfoldable pub marker-stands : (at hi : ℕ) (rest : List ℕ) → StandsAt s at hi (224 ∷ 1 ∷ 0 ∷ 234 ∷ rest) → ItemAt s hi Stream at (marker at 1 0 (at + 4)) × StandsAt s (at + 4) hi rest
   marker-stands at hi rest b =
       let c = stands-next 224 (1 ∷ 0 ∷ 234 ∷ rest) b in
       let d = stands-next 1 (0 ∷ 234 ∷ rest) c in

@@ -46,7 +46,7 @@ unfolding packed
 packed-short limit s = omega (arith, whole-packs limit s .short)
 
 -- all of a slice stands at its start
-whole-stands : (s : List ℕ) → StandsAt s 0 (length s) s
+pub whole-stands : (s : List ℕ) → StandsAt s 0 (length s) s
 whole-stands s = record { same = ap (λ (n : ℕ). part s 0 n) (let e : 0 + length s ≡ length s = omega arith in e) ∙ take-length s; fits = omega arith; within = omega arith }
 
 pub packed-tree : PackedTree

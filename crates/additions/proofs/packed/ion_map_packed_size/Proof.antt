@@ -15,8 +15,8 @@ use Rattle.additions.proofs.packed.ion_map_packed_size.Tie as tie
 packed-size-requires : tie.Need-packed-size-requires
 packed-size-requires c κs = search needs
 
-size-words-requires : tie.Need-size-words-requires
-size-words-requires c κs = search needs
+bytes-words-requires : tie.Need-bytes-words-requires
+bytes-words-requires c κs = search needs
 
 put-record-requires : tie.Need-put-record-requires
 put-record-requires c κs = search needs
@@ -32,10 +32,10 @@ returns c =
     let a = q .before .before .before .before .args in
     let old = a .out .now in
     let o = sizeOf (a .limit) (a .deepest) (a .map .now) in
-    let e = w .size-words .ensures ∙ ap sizeWords (q .packed-size .ensures) in
+    let e = w .bytes-words .ensures ∙ ap sizeWords (q .packed-size .ensures) in
     (p .put-record .ensures .0 ∙ ap (λ (ws : List ℕ). returnedBy ws old) e ∙ returned-by (sizeWords o) old o (size-number o), p .put-record .ensures .1 ∙ ap (λ (ws : List ℕ). recordIn ws old) e)
 
 pub ion-map-packed-size-spec : {M : Type 1} → statement M
 ion-map-packed-size-spec =
     tie.close
-    (tie.spec packed-size-requires size-words-requires put-record-requires same-length returns)
+    (tie.spec packed-size-requires bytes-words-requires put-record-requires same-length returns)
