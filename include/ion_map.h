@@ -647,23 +647,6 @@ enum {
     ION_MAP_WRITTEN_LENGTH = 3
 };
 
-/* The type codes of what is written; those of ints are 2 and 3, of which a null's is 2. */
-enum {
-    ION_MAP_TYPE_NULL = 0,
-    ION_MAP_TYPE_BOOL = 1,
-    ION_MAP_TYPE_INT = 2,
-    ION_MAP_TYPE_FLOAT = 4,
-    ION_MAP_TYPE_DECIMAL = 5,
-    ION_MAP_TYPE_TIMESTAMP = 6,
-    ION_MAP_TYPE_SYMBOL = 7,
-    ION_MAP_TYPE_STRING = 8,
-    ION_MAP_TYPE_CLOB = 9,
-    ION_MAP_TYPE_BLOB = 10,
-    ION_MAP_TYPE_LIST = 11,
-    ION_MAP_TYPE_SEXP = 12,
-    ION_MAP_TYPE_STRUCT = 13
-};
-
 /* Refusals that only the functions of part 5 give. */
 enum {
     ION_MAP_REFUSAL_NO_ROOM_TO_WRITE = 70, /* `to` is too short, tested last - how many bytes are needed */
@@ -674,7 +657,7 @@ enum {
 extern "C" {
 #endif
 
-/* A null of a type, 0 to 13 (else 50). */
+/* A null of a type, ION_MAP_TYPE_..., 0 to 13 (else 50); both codes of ints write one null, 2F. */
 uint64_t ion_map_write_null(size_t type, uint8_t *to, size_t to_len, uint8_t *out, size_t out_len);
 /* A bool: 0 or 1 (else 50). */
 uint64_t ion_map_write_bool(uint64_t value, uint8_t *to, size_t to_len, uint8_t *out, size_t out_len);

@@ -224,12 +224,13 @@ fn var_uint(id: u64) -> Result<Vec<u8>, Refusal> {
     Ok(bytes)
 }
 
-/// The type code of a type; an int's is the positive one's.
+/// The type code of a type.
 fn code(of: Type) -> usize {
     match of {
         Type::Null => 0,
         Type::Bool => 1,
         Type::Int => 2,
+        Type::NegativeInt => 3,
         Type::Float => 4,
         Type::Decimal => 5,
         Type::Timestamp => 6,

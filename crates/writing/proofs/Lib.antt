@@ -8,3 +8,5 @@ pub mod Stages
 pub mod PadsBack
 pub mod OneByte
 pub mod Back
+pub mod OneByteValues
+pub mod ScalarsBack

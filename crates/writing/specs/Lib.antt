@@ -2,4 +2,5 @@ pub mod Things
 pub mod Answers
 pub mod Read
 pub mod Theorems
+pub mod Back
 pub mod Private

@@ -10,11 +10,8 @@ use lib.Dec.{eqb}
 use Rattle.numbers.specs.Outcome.{Outcome, gives, refuses, pick}
 use Rattle.numbers.specs.Bytes.{part}
 use Rattle.framing.specs.Spans.{Spans, Padding}
-use Rattle.framing.specs.Limits.{outOfRange}
 use Rattle.framing.specs.Answers.{padding, readFrame, readValue}
 use Rattle.framing.specs.ShortValue.{bareSpans}
-use Rattle.values.specs.Scalars.{Scalar, Opened, readScalar, stepIn}
-use Rattle.values.specs.Scalars as read
 use Rattle.checking.specs.Reading.{Done, done}
 use Rattle.encoding.specs.Heads.{headSize, typedSpans}
 use Rattle.encoding.specs.Meaning.{StandsAt}
