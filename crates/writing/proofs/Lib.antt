@@ -10,3 +10,4 @@ pub mod OneByte
 pub mod Back
 pub mod OneByteValues
 pub mod ScalarsBack
+pub mod WrappersBack
