@@ -11,3 +11,4 @@ pub mod Back
 pub mod OneByteValues
 pub mod ScalarsBack
 pub mod WrappersBack
+pub mod Judging

@@ -3,4 +3,5 @@ pub mod Answers
 pub mod Read
 pub mod Theorems
 pub mod Back
+pub mod Judged
 pub mod Private
