@@ -60,11 +60,7 @@ fn outside() -> Written
 
 // Writes a null of a type, by its type code: 0 to 13.
 #[no_mangle]
-pub extern "C" fn ion_map_write_null(
-    type_code: usize,
-    to: &mut [u8],
-    out: &mut [u8],
-) -> u64
+pub extern "C" fn ion_map_write_null(type_code: usize, to: &mut [u8], out: &mut [u8]) -> u64
     ensures { λ r. ⌜ ((limit deepest : ℕ) → Wrote (writeOf limit deepest (null «type_code») (length (now (to .entry)))) (written (null «type_code»)) (now (to .entry)) (now (to .exit)) (now (out .entry)) (now (out .exit)) r) ⌝ }
 {
     if out.len() < RECORD_SIZE {
@@ -75,11 +71,7 @@ pub extern "C" fn ion_map_write_null(
 
 // Writes a bool: 0 or 1.
 #[no_mangle]
-pub extern "C" fn ion_map_write_bool(
-    value: u64,
-    to: &mut [u8],
-    out: &mut [u8],
-) -> u64
+pub extern "C" fn ion_map_write_bool(value: u64, to: &mut [u8], out: &mut [u8]) -> u64
     ensures { λ r. ⌜ ((limit deepest : ℕ) → Wrote (flagged value (writeOf limit deepest (bool (eqb value 1)) (length (now (to .entry))))) (written (bool (eqb value 1))) (now (to .entry)) (now (to .exit)) (now (out .entry)) (now (out .exit)) r) ⌝ }
 {
     if out.len() < RECORD_SIZE {
@@ -112,11 +104,7 @@ pub extern "C" fn ion_map_write_int(
 
 // Writes the float with these 64 bits.
 #[no_mangle]
-pub extern "C" fn ion_map_write_float(
-    bits: u64,
-    to: &mut [u8],
-    out: &mut [u8],
-) -> u64
+pub extern "C" fn ion_map_write_float(bits: u64, to: &mut [u8], out: &mut [u8]) -> u64
     ensures { λ r. ⌜ ((limit deepest : ℕ) → Wrote (writeOf limit deepest (float bits) (length (now (to .entry)))) (written (float bits)) (now (to .entry)) (now (to .exit)) (now (out .entry)) (now (out .exit)) r) ⌝ }
 {
     if out.len() < RECORD_SIZE {
@@ -127,11 +115,7 @@ pub extern "C" fn ion_map_write_float(
 
 // Writes a symbol by its ID.
 #[no_mangle]
-pub extern "C" fn ion_map_write_symbol(
-    id: u64,
-    to: &mut [u8],
-    out: &mut [u8],
-) -> u64
+pub extern "C" fn ion_map_write_symbol(id: u64, to: &mut [u8], out: &mut [u8]) -> u64
     ensures { λ r. ⌜ ((limit deepest : ℕ) → Wrote (writeOf limit deepest (symbol id) (length (now (to .entry)))) (written (symbol id)) (now (to .entry)) (now (to .exit)) (now (out .entry)) (now (out .exit)) r) ⌝ }
 {
     if out.len() < RECORD_SIZE {
@@ -142,11 +126,7 @@ pub extern "C" fn ion_map_write_symbol(
 
 // Writes a pad of this total size.
 #[no_mangle]
-pub extern "C" fn ion_map_write_pad(
-    size: usize,
-    to: &mut [u8],
-    out: &mut [u8],
-) -> u64
+pub extern "C" fn ion_map_write_pad(size: usize, to: &mut [u8], out: &mut [u8]) -> u64
     ensures { λ r. ⌜ ((limit deepest : ℕ) → Wrote (writeOf limit deepest (pad size) (length (now (to .entry)))) (written (pad size)) (now (to .entry)) (now (to .exit)) (now (out .entry)) (now (out .exit)) r) ⌝ }
 {
     if out.len() < RECORD_SIZE {

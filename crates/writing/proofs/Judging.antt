@@ -141,11 +141,11 @@ judged-as-a-map limit deepest type body l i t one =
     let k = part-counted limit body s h 0 n g (omega arith) (omega arith) (λ j _ q. sym (stands-at there j q)) n (rulesOf type) (deepest - 1) n 0 none c (omega arith) (omega arith) (omega arith) in
     counted-is h k
     ∙ sym (ap (countedFrom h)
-      (whole-value limit s g deepest (typedSpans type 0 n) l f (omega arith)
-      ∙ value-inside s (full limit s) deepest type n (counting pads 0 none) (omega arith) (deep limit deepest l)
-      ∙ ap (λ (x : ℕ). partCheck limit x s (rulesOf type) (deepest - 1) (0 + h + n) (0 + h) c) m
-      ∙ ap (λ (x : ℕ). partCheck limit n s (rulesOf type) (deepest - 1) x (0 + h) c) (sym y)
-      ∙ ap (λ (x : ℕ). partCheck limit n s (rulesOf type) (deepest - 1) (h + n) x c) (sym z)))
+    (whole-value limit s g deepest (typedSpans type 0 n) l f (omega arith)
+    ∙ value-inside s (full limit s) deepest type n (counting pads 0 none) (omega arith) (deep limit deepest l)
+    ∙ ap (λ (x : ℕ). partCheck limit x s (rulesOf type) (deepest - 1) (0 + h + n) (0 + h) c) m
+    ∙ ap (λ (x : ℕ). partCheck limit n s (rulesOf type) (deepest - 1) x (0 + h) c) (sym y)
+    ∙ ap (λ (x : ℕ). partCheck limit n s (rulesOf type) (deepest - 1) (h + n) x c) (sym z)))
 
 given-back : (n : ℕ) (o : Outcome (List ℕ)) → countedFrom n o ≡ gives done → (c : List ℕ) × (o ≡ gives c)
 given-back n (gives c) e = (c, refl)

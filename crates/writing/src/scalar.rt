@@ -29,9 +29,13 @@ use values::value::read_placed;
 
 // The type codes of what is written.
 const POSITIVE_INT: u8 = 2;
+
 const NEGATIVE_INT: u8 = 3;
+
 const FLOAT: u8 = 4;
+
 const TIMESTAMP: u8 = 6;
+
 const SYMBOL: u8 = 7;
 
 // The last type that has a null.

@@ -16,7 +16,7 @@ use Rattle.writes.proofs.exports.ion_map_write_bool.Statement.{statemen
 use Rattle.writes.proofs.exports.ion_map_write_bool.Tie as tie
 
 returns : tie.Need-returns
-returns c = 
+returns c =
     let a = c .before .before .before .args in
     λ limit deepest. no-record (flagged (a .value) (writeOf limit deepest (bool (eqb (a .value) 1)) (length (a .to .now)))) (written (bool (eqb (a .value) 1))) (a .to .now) (a .out .now) (c .if1 .taken)
 
@@ -30,7 +30,7 @@ same-length : tie.Need-same-length
 same-length c = search needs
 
 returns-2 : tie.Need-returns-2
-returns-2 c = 
+returns-2 c =
     let p = c .before .before in
     let a = c .before .before .before .before .before .before .before .before .before .args in
     λ limit deepest. wrote (flagged (a .value) (writeOf limit deepest (bool (eqb (a .value) 1)) (length (a .to .now)))) (written (bool (eqb (a .value) 1))) (a .to .now) (a .to .now) (a .out .now) (p .put-written .last .0) (p .put-written .result) (omega (arith, c .before .before .before .before .before .before .if1 .left)) (p .before .outside .ensures ∙ flag-out (a .value) (writeOf limit deepest (bool (eqb (a .value) 1)) (length (a .to .now))) (c .before .before .before .before .before .if2 .taken)) (p .put-written .ensures .0) (p .put-written .ensures .1) (sym (ap (bufferAfter (written (bool (eqb (a .value) 1))) (a .to .now)) (p .before .outside .ensures)))
@@ -48,7 +48,7 @@ same-length-3 : tie.Need-same-length-3
 same-length-3 c = search needs
 
 returns-3 : tie.Need-returns-3
-returns-3 c = 
+returns-3 c =
     let p = c .before .before in
     let q = c .before .before .before .before .before in
     let a = c .before .before .before .before .before .before .before .before .before .before .before .before .args in

@@ -16,7 +16,7 @@ use Rattle.writes.proofs.exports.ion_map_write_float.Statement.{stateme
 use Rattle.writes.proofs.exports.ion_map_write_float.Tie as tie
 
 returns : tie.Need-returns
-returns c = 
+returns c =
     let a = c .before .before .before .args in
     λ limit deepest. no-record (writeOf limit deepest (float (a .bits)) (length (a .to .now))) (written (float (a .bits))) (a .to .now) (a .out .now) (c .if1 .taken)
 
@@ -33,7 +33,7 @@ same-length-2 : tie.Need-same-length-2
 same-length-2 c = search needs
 
 returns-2 : tie.Need-returns-2
-returns-2 c = 
+returns-2 c =
     let p = c .before .before in
     let q = c .before .before .before .before .before in
     let a = c .before .before .before .before .before .before .before .before .before .before .before .args in

@@ -16,7 +16,7 @@ use Rattle.writes.proofs.exports.ion_map_write_pad.Statement.{statement
 use Rattle.writes.proofs.exports.ion_map_write_pad.Tie as tie
 
 returns : tie.Need-returns
-returns c = 
+returns c =
     let a = c .before .before .before .args in
     λ limit deepest. no-record (writeOf limit deepest (pad (a .size)) (length (a .to .now))) (written (pad (a .size))) (a .to .now) (a .out .now) (c .if1 .taken)
 
@@ -33,7 +33,7 @@ same-length-2 : tie.Need-same-length-2
 same-length-2 c = search needs
 
 returns-2 : tie.Need-returns-2
-returns-2 c = 
+returns-2 c =
     let p = c .before .before in
     let q = c .before .before .before .before .before in
     let a = c .before .before .before .before .before .before .before .before .before .before .before .args in

@@ -16,7 +16,7 @@ use Rattle.writes.proofs.exports.ion_map_write_wrapper.Statement.{state
 use Rattle.writes.proofs.exports.ion_map_write_wrapper.Tie as tie
 
 returns : tie.Need-returns
-returns c = 
+returns c =
     let a = c .before .before .before .before .before .args in
     no-record (limitedWrite (a .limit) (a .deepest) (wrapper (a .annotations .now) (a .value .now)) (length (a .to .now))) (written (wrapper (a .annotations .now) (a .value .now))) (a .to .now) (a .out .now) (c .if1 .taken)
 
@@ -33,7 +33,7 @@ same-length-2 : tie.Need-same-length-2
 same-length-2 c = search needs
 
 returns-2 : tie.Need-returns-2
-returns-2 c = 
+returns-2 c =
     let p = c .before .before in
     let q = c .before .before .before .before .before in
     let a = c .before .before .before .before .before .before .before .before .before .before .before .before .before .args in

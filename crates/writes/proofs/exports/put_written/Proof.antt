@@ -20,7 +20,7 @@ same-length : tie.Need-same-length
 same-length c = search needs
 
 returns : tie.Need-returns
-returns c = 
+returns c =
     let p = c .before .before in
     let a = c .before .before .before .before .before .before .args in
     let e = p .before .written-words .ensures in

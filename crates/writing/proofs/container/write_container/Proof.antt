@@ -48,7 +48,7 @@ refused-requires : tie.Need-refused-requires
 refused-requires c κs = search needs
 
 returns : tie.Need-returns
-returns c = 
+returns c =
     let a = c .before .before .before .before .before .args in
     (c .refused .ensures ∙ unlimited (a .limit) (a .deepest) (container (a .type-code) (a .body .now)) (length (a .to .now)) (sym (c .before .before .limits-out .ensures) ∙ c .before .if1 .taken), kept (typedBytes (a .type-code) (a .body .now)) (a .to .now) (c .refused .ensures))
 
@@ -59,7 +59,7 @@ refused-requires-2 : tie.Need-refused-requires-2
 refused-requires-2 c κs = search needs
 
 returns-2 : tie.Need-returns-2
-returns-2 c = 
+returns-2 c =
     let a = c .before .before .before .before .before .before .before .args in
     let x = container (a .type-code) (a .body .now) in
     (c .refused2 .ensures ∙ outside-is (a .limit) (a .deepest) x (length (a .to .now)) (ap not (sym (c .before .before .is-container .ensures)) ∙ c .before .if2 .taken) ∙ in-limits (a .limit) (a .deepest) x (length (a .to .now)) (sym (c .before .before .before .before .limits-out .ensures) ∙ c .before .before .before .if1 .left), kept (typedBytes (a .type-code) (a .body .now)) (a .to .now) (c .refused2 .ensures))
@@ -71,7 +71,7 @@ refused-requires-3 : tie.Need-refused-requires-3
 refused-requires-3 c κs = search needs
 
 returns-3 : tie.Need-returns-3
-returns-3 c = 
+returns-3 c =
     let a = c .before .before .before .before .before .before .before .before .before .args in
     let x = container (a .type-code) (a .body .now) in
     (c .refused3 .ensures ∙ long-is (a .limit) (a .deepest) x (length (a .to .now)) (ap not (sym (c .before .before .before .before .is-container .ensures)) ∙ c .before .before .before .if2 .left) (sym (c .before .before .past-nine .ensures) ∙ c .before .if3 .taken) ∙ in-limits (a .limit) (a .deepest) x (length (a .to .now)) (sym (c .before .before .before .before .before .before .limits-out .ensures) ∙ c .before .before .before .before .before .if1 .left), kept (typedBytes (a .type-code) (a .body .now)) (a .to .now) (c .refused3 .ensures))
@@ -80,7 +80,7 @@ rules-of-requires : tie.Need-rules-of-requires
 rules-of-requires c κs = search needs
 
 sub-check-body : tie.Need-sub-check-body
-sub-check-body c = 
+sub-check-body c =
     let a = c .before .before .before .before .before .before .before .before .before .args in
     deep (a .limit) (a .deepest) (sym (c .before .before .before .before .before .before .limits-out .ensures) ∙ c .before .before .before .before .before .if1 .left)
 
@@ -91,12 +91,12 @@ enum-told : tie.Need-enum-told
 enum-told c = search needs
 
 narrow-requires : tie.Need-narrow-requires
-narrow-requires c κs = 
+narrow-requires c κs =
     let a = c .before .before .before .before .before .before .before .before .before .before .before .before .before .args in
     omega (arith, below (a .type-code) (ap not (sym (c .before .before .before .before .before .before .before .before .is-container .ensures)) ∙ c .before .before .before .before .before .before .before .if2 .left))
 
 put-typed-requires : tie.Need-put-typed-requires
-put-typed-requires c κs = 
+put-typed-requires c κs =
     let a = c .before .before .before .before .before .before .before .before .before .before .before .before .before .before .args in
     (omega (arith, c .narrow .ensures, below (a .type-code) (ap not (sym (c .before .before .before .before .before .before .before .before .before .is-container .ensures)) ∙ c .before .before .before .before .before .before .before .before .if2 .left)), (sym (c .before .before .before .before .before .before .before .past-nine .ensures) ∙ c .before .before .before .before .before .before .if3 .left))
 
@@ -107,17 +107,18 @@ same-length : tie.Need-same-length
 same-length c = search needs
 
 returns-4 : tie.Need-returns-4
-returns-4 c = 
+returns-4 c =
     let a = c .before .before .before .before .before .before .before .before .before .before .before .before .before .before .before .before .before .args in
     let x = container (a .type-code) (a .body .now) in
     let q = c .before .before in
     let e = q .before .narrow .ensures in
-    let j = checked (a .limit) (a .deepest) (a .type-code) (a .body .now) (in-limit (a .limit) (a .deepest) (sym (c .before .before .before .before .before .before .before .before .before .before .before .before .before .before .limits-out .ensures) ∙ c .before .before .before .before .before .before .before .before .before .before .before .before .before .if1 .left)) (ap (λ (r : Rules). limitedBody (a .limit) (a .deepest - 1) r (a .body .now)) (sym (c .before .before .before .before .before .before .before .before .rules-of .ensures)) ∙ sym (c .before .before .before .before .before .before .before .check-body .ensures) ∙ ap doneRead (c .before .before .before .before .before .enum-told .given .1)) in
-    (q .put-typed .ensures .0 ∙ ap (λ (k : ℕ). fitted (length (a .to .now)) (length (typedBytes k (a .body .now))) done) e ∙ fitted-is (a .limit) (a .deepest) x (length (a .to .now)) (ap not (sym (c .before .before .before .before .before .before .before .before .before .before .before .before .is-container .ensures)) ∙ c .before .before .before .before .before .before .before .before .before .before .before .if2 .left) (sym (c .before .before .before .before .before .before .before .before .before .before .past-nine .ensures) ∙ c .before .before .before .before .before .before .before .before .before .if3 .left) j ∙ in-limits (a .limit) (a .deepest) x (length (a .to .now)) (sym (c .before .before .before .before .before .before .before .before .before .before .before .before .before .before .limits-out .ensures) ∙ c .before .before .before .before .before .before .before .before .before .before .before .before .before .if1 .left),
-    q .put-typed .ensures .1 ∙ ap (λ (k : ℕ). bufferAfter (typedBytes k (a .body .now)) (a .to .now) (writtenRead (q .put-typed .result))) e)
+    let j = checked (a .limit) (a .deepest) (a .type-code) (a .body .now) (in-limit (a .limit) (a .deepest) (sym (c .before .before .before .before .before .before .before .before .before .before .before .before .before .before .limits-out .ensures) ∙ c .before .before .before .before .before .before .before .before .before .before .before .before .before .if1 .left)) (ap (λ (r : Rules). limitedBody (a .limit) (a .deepest - 1) r (a .body .now)) (sym (c .before .before .before .before .before .before .before .before .rules-of .ensures)) ∙ sym (c .before .before .before .before .before .before .before .check-body .ensures) ∙ ap doneRead (c .before .before .before .before .before .enum-told .given .1)) in (
+      q .put-typed .ensures .0 ∙ ap (λ (k : ℕ). fitted (length (a .to .now)) (length (typedBytes k (a .body .now))) done) e ∙ fitted-is (a .limit) (a .deepest) x (length (a .to .now)) (ap not (sym (c .before .before .before .before .before .before .before .before .before .before .before .before .is-container .ensures)) ∙ c .before .before .before .before .before .before .before .before .before .before .before .if2 .left) (sym (c .before .before .before .before .before .before .before .before .before .before .past-nine .ensures) ∙ c .before .before .before .before .before .before .before .before .before .if3 .left) j ∙ in-limits (a .limit) (a .deepest) x (length (a .to .now)) (sym (c .before .before .before .before .before .before .before .before .before .before .before .before .before .before .limits-out .ensures) ∙ c .before .before .before .before .before .before .before .before .before .before .before .before .before .if1 .left),
+      q .put-typed .ensures .1 ∙ ap (λ (k : ℕ). bufferAfter (typedBytes k (a .body .now)) (a .to .now) (writtenRead (q .put-typed .result))) e,
+    )
 
 returns-5 : tie.Need-returns-5
-returns-5 c = 
+returns-5 c =
     let a = c .before .before .before .before .before .before .before .before .before .before .before .before .before .args in
     let x = container (a .type-code) (a .body .now) in
     let j = checked (a .limit) (a .deepest) (a .type-code) (a .body .now) (in-limit (a .limit) (a .deepest) (sym (c .before .before .before .before .before .before .before .before .before .before .limits-out .ensures) ∙ c .before .before .before .before .before .before .before .before .before .if1 .left)) (ap (λ (r : Rules). limitedBody (a .limit) (a .deepest - 1) r (a .body .now)) (sym (c .before .before .before .before .rules-of .ensures)) ∙ sym (c .before .before .before .check-body .ensures) ∙ ap doneRead (c .before .refusal .given .1)) in

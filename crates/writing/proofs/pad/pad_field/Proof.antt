@@ -32,7 +32,7 @@ var-uint-size-requires : tie.Need-var-uint-size-requires Inv-loop μ-loop
 var-uint-size-requires c κs = search needs
 
 returns-2 : tie.Need-returns-2 Inv-loop μ-loop
-returns-2 c = 
+returns-2 c =
     let l = c .before .before .before .loop in
     let a = c .before .before .before .before .before .args in
     sym (l .inv .3 ∙ field-hit (a .size) (l .k) (omega arith) (omega (arith, c .if2 .taken, c .before .var-uint-size .ensures)))
@@ -44,13 +44,13 @@ loop-less : tie.Need-loop-less Inv-loop μ-loop
 loop-less c = omega arith
 
 loop-again : tie.Need-loop-again Inv-loop μ-loop
-loop-again c = 
+loop-again c =
     let l = c .before .before .before .loop in
     let a = c .before .before .before .before .before .args in
     (l .inv .0, omega arith, omega arith, l .inv .3 ∙ field-on (a .size) (l .k) (l .inv .1) (omega arith) (omega (arith, c .if2 .left, c .before .var-uint-size .ensures)))
 
 returns-3 : tie.Need-returns-3 Inv-loop μ-loop
-returns-3 c = 
+returns-3 c =
     let l = c .before .loop in
     let a = c .before .before .before .args in
     sym (l .inv .3 ∙ field-end (a .size) (l .k) (omega (arith, c .loop-test .left)) (l .inv .2))

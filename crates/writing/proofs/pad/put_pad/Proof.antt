@@ -19,7 +19,7 @@ use Rattle.writing.proofs.pad.put_pad.Statement.{statement}
 use Rattle.writing.proofs.pad.put_pad.Tie as tie
 
 sub-narrow : tie.Need-sub-narrow
-sub-narrow c = 
+sub-narrow c =
     let s = c .before .before .before in
     omega (arith, pad-some (s .args .size) (s .pre .0))
 
@@ -30,7 +30,7 @@ put-byte-requires : tie.Need-put-byte-requires
 put-byte-requires c κs = search needs
 
 put-zeros-requires : tie.Need-put-zeros-requires
-put-zeros-requires c κs = 
+put-zeros-requires c κs =
     let s = c .before .before .before .before .before .before .before .before in
     let l : length (c .before .before .before .put-byte .last .0) ≡ length (s .args .to .now) = ap length (c .before .before .before .put-byte .ensures) ∙ simp length-set in
     (omega (arith, pad-some (s .args .size) (s .pre .0)), omega (arith, l, s .pre .2))
@@ -39,7 +39,7 @@ same-length : tie.Need-same-length
 same-length c = search needs
 
 returns : tie.Need-returns
-returns c = 
+returns c =
     let p = c .before .before .before .before .before .before in
     let s = c .before .before .before .before .before .before .before .before .before .before .before in
     c .before .before .put-zeros .ensures
@@ -50,7 +50,7 @@ put-byte-requires-2 : tie.Need-put-byte-requires-2
 put-byte-requires-2 c κs = search needs
 
 sub-put-var-uint-in : tie.Need-sub-put-var-uint-in
-sub-put-var-uint-in c = 
+sub-put-var-uint-in c =
     let s = c .before .before .before .before .before .before .before in
     omega (arith, field-some (s .args .size) (omega (arith, c .before .before .before .before .before .if1 .left)), s .pre .1)
 
@@ -58,7 +58,7 @@ sub-put-var-uint-in-2 : tie.Need-sub-put-var-uint-in-2
 sub-put-var-uint-in-2 c = search needs
 
 sub-put-var-uint-in-3 : tie.Need-sub-put-var-uint-in-3
-sub-put-var-uint-in-3 c = 
+sub-put-var-uint-in-3 c =
     let s = c .before .before .before .before .before .before .before in
     omega (arith, pad-few (s .args .size) (s .pre .0), s .pre .1, c .before .before .before .before .before .if1 .left)
 
@@ -66,12 +66,12 @@ put-var-uint-in-requires : tie.Need-put-var-uint-in-requires
 put-var-uint-in-requires c κs = search needs
 
 add-put-zeros : tie.Need-add-put-zeros
-add-put-zeros c = 
+add-put-zeros c =
     let s = c .before .before .before .before .before .before .before .before .before .before .before in
     omega (arith, pad-few (s .args .size) (s .pre .0), s .pre .1)
 
 put-zeros-requires-2 : tie.Need-put-zeros-requires-2
-put-zeros-requires-2 c κs = 
+put-zeros-requires-2 c κs =
     let s = c .before .before .before .before .before .before .before .before .before .before .before in
     let l = ap length (c .before .before .before .put-var-uint-in .ensures) ∙ length-sets (c .before .before .before .before .before .before .before .put-byte2 .last .0) 1 (varUIntIn (s .args .field - 1) (s .args .size - 1 - s .args .field)) in
     let m : length (c .before .before .before .before .before .before .before .put-byte2 .last .0) ≡ length (s .args .to .now) = ap length (c .before .before .before .before .before .before .before .put-byte2 .ensures) ∙ simp length-set in
@@ -81,7 +81,7 @@ same-length-2 : tie.Need-same-length-2
 same-length-2 c = search needs
 
 returns-2 : tie.Need-returns-2
-returns-2 c = 
+returns-2 c =
     let s = c .before .before .before .before .before .before .before .before .before .before .before .before .before .before in
     let f : ℕ = s .args .field in
     let n : ℕ = s .args .size in

@@ -28,7 +28,7 @@ loop-less : tie.Need-loop-less Inv-loop μ-loop
 loop-less c = omega arith
 
 loop-again : tie.Need-loop-again Inv-loop μ-loop
-loop-again c = 
+loop-again c =
     let l = c .before .loop in
     let a = c .before .before .args in
     (omega (arith, c .loop-test .taken), simp length-set (l .inv .1), simp length-set (l .inv .2), zeros-on (l .out) (l .i) (a .end) (c .loop-test .taken) ∙ l .inv .3)
@@ -37,7 +37,7 @@ same-length : tie.Need-same-length Inv-loop μ-loop
 same-length c = c .before .loop .inv .2
 
 returns : tie.Need-returns Inv-loop μ-loop
-returns c = 
+returns c =
     let l = c .before .loop in
     let a = c .before .before .args in
     zeros-end (l .out) (l .i) (a .end) (omega (arith, c .loop-test .left)) ∙ l .inv .3

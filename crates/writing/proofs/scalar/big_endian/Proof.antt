@@ -38,7 +38,7 @@ low-byte-requires-8 : tie.Need-low-byte-requires-8
 low-byte-requires-8 c κs = search needs
 
 returns : tie.Need-returns
-returns c = 
+returns c =
     eight _ (c .before .before .before .before .before .before .before .low-byte .ensures) (c .before .before .before .before .before .before .low-byte2 .ensures) (c .before .before .before .before .before .low-byte3 .ensures) (c .before .before .before .before .low-byte4 .ensures) (c .before .before .before .low-byte5 .ensures) (c .before .before .low-byte6 .ensures) (c .before .low-byte7 .ensures) (c .low-byte8 .ensures)
 
 pub big-endian-spec : {M : Type 1} → statement M

@@ -59,7 +59,7 @@ read-body-requires : tie.Need-read-body-requires
 read-body-requires c κs = search needs
 
 returns-2 : tie.Need-returns-2
-returns-2 c = 
+returns-2 c =
     let q = c .before .before .before in
     let a = q .before .before .args in
     let v : Spans = bareSpans (a .type-code * 16) 0 0 (length (a .body .now)) in

@@ -13,7 +13,7 @@ refused-requires : tie.Need-refused-requires
 refused-requires c κs = search needs
 
 returns : tie.Need-returns
-returns c = 
+returns c =
     let a = c .before .before .before .args in
     (c .refused .ensures ∙ too-short (length (a .to .now)) 1 1 refl (c .before .if1 .taken), kept (a .byte ∷ []) (a .to .now) (c .refused .ensures))
 
@@ -24,7 +24,7 @@ same-length : tie.Need-same-length
 same-length c = search needs
 
 returns-2 : tie.Need-returns-2
-returns-2 c = 
+returns-2 c =
     let q = c .before .before .before .before in
     let a = q .before .before .args in
     (fits (length (a .to .now)) 1 1 refl (omega (arith, q .if1 .left)), c .before .before .put-byte .ensures ∙ stored (a .byte ∷ []) (a .to .now) 1 refl (omega (arith, q .if1 .left)))

@@ -22,11 +22,12 @@ same-length : tie.Need-same-length
 same-length c = search needs
 
 returns : tie.Need-returns
-returns c = 
+returns c =
     let q = c .before .before in
-    let a = q .before .before .before .before .args in
-    ((λ limit deepest. q .put-one .ensures .0 ∙ fitted-is limit deepest (bool (a .value)) (length (a .to .now)) refl refl refl),
-    q .put-one .ensures .1 ∙ ap (λ (b : ℕ). bufferAfter (b ∷ []) (a .to .now) (writtenRead (q .put-one .result))) (q .before .bool-byte .ensures))
+    let a = q .before .before .before .before .args in (
+      (λ limit deepest. q .put-one .ensures .0 ∙ fitted-is limit deepest (bool (a .value)) (length (a .to .now)) refl refl refl),
+      q .put-one .ensures .1 ∙ ap (λ (b : ℕ). bufferAfter (b ∷ []) (a .to .now) (writtenRead (q .put-one .result))) (q .before .bool-byte .ensures),
+    )
 
 pub write-bool-spec : {M : Type 1} → statement M
 write-bool-spec = tie.close (tie.spec bool-byte-requires put-one-requires same-length returns)

@@ -49,18 +49,19 @@ same-length : tie.Need-same-length
 same-length c = search needs
 
 returns : tie.Need-returns
-returns c = 
+returns c =
     let q = c .before .before in
     let a = q .before .before .before .before .before .before .before .args in
-    let e : floatBody (a .bits) ≡ [] = zero-body (a .bits) (q .before .before .before .before .if1 .taken) in
-    ((λ limit deepest. q .put-typed .ensures .0 ∙ ap (λ (l : List ℕ). fitted (length (a .to .now)) (length (typedBytes 4 l)) done) (sym e) ∙ fitted-is limit deepest (float (a .bits)) (length (a .to .now)) refl refl refl),
-    q .put-typed .ensures .1 ∙ ap (λ (l : List ℕ). bufferAfter (typedBytes 4 l) (a .to .now) (writtenRead (q .put-typed .result))) (sym e))
+    let e : floatBody (a .bits) ≡ [] = zero-body (a .bits) (q .before .before .before .before .if1 .taken) in (
+      (λ limit deepest. q .put-typed .ensures .0 ∙ ap (λ (l : List ℕ). fitted (length (a .to .now)) (length (typedBytes 4 l)) done) (sym e) ∙ fitted-is limit deepest (float (a .bits)) (length (a .to .now)) refl refl refl),
+      q .put-typed .ensures .1 ∙ ap (λ (l : List ℕ). bufferAfter (typedBytes 4 l) (a .to .now) (writtenRead (q .put-typed .result))) (sym e),
+    )
 
 slice-aggregate-put-typed : tie.Need-slice-aggregate-put-typed
 slice-aggregate-put-typed c = search needs
 
 put-typed-requires-2 : tie.Need-put-typed-requires-2
-put-typed-requires-2 c κs = 
+put-typed-requires-2 c κs =
     let q = c .before .before .before in
     (omega arith, told (length (q .big-endian .result)) (omega (arith, ap length (q .big-endian .ensures), uint-written 8 (q .before .before .args .bits) .size)))
 
@@ -68,12 +69,13 @@ same-length-2 : tie.Need-same-length-2
 same-length-2 c = search needs
 
 returns-2 : tie.Need-returns-2
-returns-2 c = 
+returns-2 c =
     let q = c .before .before in
     let a = q .before .before .before .before .before .before .args in
-    let e : q .before .before .before .before .big-endian .result ≡ floatBody (a .bits) = q .before .before .before .before .big-endian .ensures ∙ sym (other-body (a .bits) (q .before .before .before .if1 .left)) in
-    ((λ limit deepest. q .put-typed2 .ensures .0 ∙ ap (λ (l : List ℕ). fitted (length (a .to .now)) (length (typedBytes 4 l)) done) e ∙ fitted-is limit deepest (float (a .bits)) (length (a .to .now)) refl refl refl),
-    q .put-typed2 .ensures .1 ∙ ap (λ (l : List ℕ). bufferAfter (typedBytes 4 l) (a .to .now) (writtenRead (q .put-typed2 .result))) e)
+    let e : q .before .before .before .before .big-endian .result ≡ floatBody (a .bits) = q .before .before .before .before .big-endian .ensures ∙ sym (other-body (a .bits) (q .before .before .before .if1 .left)) in (
+      (λ limit deepest. q .put-typed2 .ensures .0 ∙ ap (λ (l : List ℕ). fitted (length (a .to .now)) (length (typedBytes 4 l)) done) e ∙ fitted-is limit deepest (float (a .bits)) (length (a .to .now)) refl refl refl),
+      q .put-typed2 .ensures .1 ∙ ap (λ (l : List ℕ). bufferAfter (typedBytes 4 l) (a .to .now) (writtenRead (q .put-typed2 .result))) e,
+    )
 
 pub write-float-spec : {M : Type 1} → statement M
 write-float-spec =

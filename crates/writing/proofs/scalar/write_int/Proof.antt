@@ -49,7 +49,7 @@ sub-body : tie.Need-sub-body
 sub-body c = significant-high (c .before .before .before .args .magnitude .now) (c .significant .result) (c .significant .ensures)
 
 part-body-start : tie.Need-part-body-start
-part-body-start c = 
+part-body-start c =
     let h : c .significant .result ≤ length (c .before .before .before .args .magnitude .now) = significant-high (c .before .before .before .args .magnitude .now) (c .significant .result) (c .significant .ensures) in
     search needs
 
@@ -63,28 +63,30 @@ refused-requires : tie.Need-refused-requires
 refused-requires c κs = search needs
 
 returns : tie.Need-returns
-returns c = 
+returns c =
     let p = c .before .before .before .before in
     let a = p .before .before .before .args in
-    let e = significant-part (a .magnitude .now) (p .significant .result) (p .significant .ensures) in
-    ((λ limit deepest. c .refused .ensures ∙ long-is limit deepest (int (a .negative) (a .magnitude .now)) (length (a .to .now)) refl (ap (λ (l : List ℕ). pastNine (length l)) (sym e) ∙ sym (c .before .before .past-nine .ensures) ∙ c .before .if1 .taken)),
-    kept (typedBytes (intType (a .negative)) (significant (a .magnitude .now))) (a .to .now) (c .refused .ensures))
+    let e = significant-part (a .magnitude .now) (p .significant .result) (p .significant .ensures) in (
+      (λ limit deepest. c .refused .ensures ∙ long-is limit deepest (int (a .negative) (a .magnitude .now)) (length (a .to .now)) refl (ap (λ (l : List ℕ). pastNine (length l)) (sym e) ∙ sym (c .before .before .past-nine .ensures) ∙ c .before .if1 .taken)),
+      kept (typedBytes (intType (a .negative)) (significant (a .magnitude .now))) (a .to .now) (c .refused .ensures),
+    )
 
 refused-requires-2 : tie.Need-refused-requires-2
 refused-requires-2 c κs = search needs
 
 returns-2 : tie.Need-returns-2
-returns-2 c = 
+returns-2 c =
     let x = c .before .before .before in
     let p = x .before .before .before in
     let a = p .before .before .before .args in
     let e = significant-part (a .magnitude .now) (p .significant .result) (p .significant .ensures) in
-    let t : pastNine (length (significant (a .magnitude .now))) ≡ false = ap (λ (l : List ℕ). pastNine (length l)) (sym e) ∙ sym (x .before .past-nine .ensures) ∙ x .if1 .left in
-    ((λ limit deepest. c .refused2 .ensures ∙ judged-is limit deepest (int (a .negative) (a .magnitude .now)) (length (a .to .now)) refl t (zero (a .negative) (a .magnitude .now) (c .before .before .if2 .taken) (ap length (sym e) ∙ c .before .if3 .taken))),
-    kept (typedBytes (intType (a .negative)) (significant (a .magnitude .now))) (a .to .now) (c .refused2 .ensures))
+    let t : pastNine (length (significant (a .magnitude .now))) ≡ false = ap (λ (l : List ℕ). pastNine (length l)) (sym e) ∙ sym (x .before .past-nine .ensures) ∙ x .if1 .left in (
+      (λ limit deepest. c .refused2 .ensures ∙ judged-is limit deepest (int (a .negative) (a .magnitude .now)) (length (a .to .now)) refl t (zero (a .negative) (a .magnitude .now) (c .before .before .if2 .taken) (ap length (sym e) ∙ c .before .if3 .taken))),
+      kept (typedBytes (intType (a .negative)) (significant (a .magnitude .now))) (a .to .now) (c .refused2 .ensures),
+    )
 
 put-typed-requires : tie.Need-put-typed-requires
-put-typed-requires c κs = 
+put-typed-requires c κs =
     let x = c .before .before .before in
     (omega arith, sym (x .before .past-nine .ensures) ∙ x .if1 .left)
 
@@ -92,19 +94,20 @@ same-length : tie.Need-same-length
 same-length c = search needs
 
 returns-3 : tie.Need-returns-3
-returns-3 c = 
+returns-3 c =
     let q = c .before .before in
     let x = q .before .before .before .before in
     let p = x .before .before .before in
     let a = p .before .before .before .args in
     let e = significant-part (a .magnitude .now) (p .significant .result) (p .significant .ensures) in
     let m : intType (a .negative) ≡ 3 = negative-type (a .negative) (q .before .before .before .if2 .taken) in
-    let t : pastNine (length (significant (a .magnitude .now))) ≡ false = ap (λ (l : List ℕ). pastNine (length l)) (sym e) ∙ sym (x .before .past-nine .ensures) ∙ x .if1 .left in
-    ((λ limit deepest. q .put-typed .ensures .0 ∙ ap (λ (l : List ℕ). fitted (length (a .to .now)) (length (typedBytes 3 l)) done) e ∙ ap (λ (k : ℕ). fitted (length (a .to .now)) (length (typedBytes k (significant (a .magnitude .now)))) done) (sym m) ∙ fitted-is limit deepest (int (a .negative) (a .magnitude .now)) (length (a .to .now)) refl t (some (a .negative) (a .magnitude .now) (λ z. q .before .before .if3 .left (ap length e ∙ z)))),
-    q .put-typed .ensures .1 ∙ ap (λ (l : List ℕ). bufferAfter (typedBytes 3 l) (a .to .now) (writtenRead (q .put-typed .result))) e ∙ ap (λ (k : ℕ). bufferAfter (typedBytes k (significant (a .magnitude .now))) (a .to .now) (writtenRead (q .put-typed .result))) (sym m))
+    let t : pastNine (length (significant (a .magnitude .now))) ≡ false = ap (λ (l : List ℕ). pastNine (length l)) (sym e) ∙ sym (x .before .past-nine .ensures) ∙ x .if1 .left in (
+      (λ limit deepest. q .put-typed .ensures .0 ∙ ap (λ (l : List ℕ). fitted (length (a .to .now)) (length (typedBytes 3 l)) done) e ∙ ap (λ (k : ℕ). fitted (length (a .to .now)) (length (typedBytes k (significant (a .magnitude .now)))) done) (sym m) ∙ fitted-is limit deepest (int (a .negative) (a .magnitude .now)) (length (a .to .now)) refl t (some (a .negative) (a .magnitude .now) (λ z. q .before .before .if3 .left (ap length e ∙ z)))),
+      q .put-typed .ensures .1 ∙ ap (λ (l : List ℕ). bufferAfter (typedBytes 3 l) (a .to .now) (writtenRead (q .put-typed .result))) e ∙ ap (λ (k : ℕ). bufferAfter (typedBytes k (significant (a .magnitude .now))) (a .to .now) (writtenRead (q .put-typed .result))) (sym m),
+    )
 
 put-typed-requires-2 : tie.Need-put-typed-requires-2
-put-typed-requires-2 c κs = 
+put-typed-requires-2 c κs =
     let x = c .before .before in
     (omega arith, sym (x .before .past-nine .ensures) ∙ x .if1 .left)
 
@@ -112,16 +115,17 @@ same-length-2 : tie.Need-same-length-2
 same-length-2 c = search needs
 
 returns-4 : tie.Need-returns-4
-returns-4 c = 
+returns-4 c =
     let q = c .before .before in
     let x = q .before .before .before in
     let p = x .before .before .before in
     let a = p .before .before .before .args in
     let e = significant-part (a .magnitude .now) (p .significant .result) (p .significant .ensures) in
     let m : intType (a .negative) ≡ 2 = positive-type (a .negative) (q .before .before .if2 .left) in
-    let t : pastNine (length (significant (a .magnitude .now))) ≡ false = ap (λ (l : List ℕ). pastNine (length l)) (sym e) ∙ sym (x .before .past-nine .ensures) ∙ x .if1 .left in
-    ((λ limit deepest. q .put-typed2 .ensures .0 ∙ ap (λ (l : List ℕ). fitted (length (a .to .now)) (length (typedBytes 2 l)) done) e ∙ ap (λ (k : ℕ). fitted (length (a .to .now)) (length (typedBytes k (significant (a .magnitude .now)))) done) (sym m) ∙ fitted-is limit deepest (int (a .negative) (a .magnitude .now)) (length (a .to .now)) refl t (positive (a .negative) (a .magnitude .now) (q .before .before .if2 .left))),
-    q .put-typed2 .ensures .1 ∙ ap (λ (l : List ℕ). bufferAfter (typedBytes 2 l) (a .to .now) (writtenRead (q .put-typed2 .result))) e ∙ ap (λ (k : ℕ). bufferAfter (typedBytes k (significant (a .magnitude .now))) (a .to .now) (writtenRead (q .put-typed2 .result))) (sym m))
+    let t : pastNine (length (significant (a .magnitude .now))) ≡ false = ap (λ (l : List ℕ). pastNine (length l)) (sym e) ∙ sym (x .before .past-nine .ensures) ∙ x .if1 .left in (
+      (λ limit deepest. q .put-typed2 .ensures .0 ∙ ap (λ (l : List ℕ). fitted (length (a .to .now)) (length (typedBytes 2 l)) done) e ∙ ap (λ (k : ℕ). fitted (length (a .to .now)) (length (typedBytes k (significant (a .magnitude .now)))) done) (sym m) ∙ fitted-is limit deepest (int (a .negative) (a .magnitude .now)) (length (a .to .now)) refl t (positive (a .negative) (a .magnitude .now) (q .before .before .if2 .left))),
+      q .put-typed2 .ensures .1 ∙ ap (λ (l : List ℕ). bufferAfter (typedBytes 2 l) (a .to .now) (writtenRead (q .put-typed2 .result))) e ∙ ap (λ (k : ℕ). bufferAfter (typedBytes k (significant (a .magnitude .now))) (a .to .now) (writtenRead (q .put-typed2 .result))) (sym m),
+    )
 
 pub write-int-spec : {M : Type 1} → statement M
 write-int-spec =

@@ -19,10 +19,11 @@ refused-requires : tie.Need-refused-requires
 refused-requires c κs = search needs
 
 returns : tie.Need-returns
-returns c = 
-    let a = c .before .before .before .args in
-    ((λ limit deepest. c .refused .ensures ∙ outside-is limit deepest (null (a .type-code)) (length (a .to .now)) (lt-ltb 13 (a .type-code) (c .before .if1 .taken))),
-    kept (nullByte (a .type-code) ∷ []) (a .to .now) (c .refused .ensures))
+returns c =
+    let a = c .before .before .before .args in (
+      (λ limit deepest. c .refused .ensures ∙ outside-is limit deepest (null (a .type-code)) (length (a .to .now)) (lt-ltb 13 (a .type-code) (c .before .if1 .taken))),
+      kept (nullByte (a .type-code) ∷ []) (a .to .now) (c .refused .ensures),
+    )
 
 null-byte-requires : tie.Need-null-byte-requires
 null-byte-requires c κs = omega (arith, c .before .if1 .left)
@@ -34,11 +35,12 @@ same-length : tie.Need-same-length
 same-length c = search needs
 
 returns-2 : tie.Need-returns-2
-returns-2 c = 
+returns-2 c =
     let q = c .before .before in
-    let a = q .before .before .before .before .before .args in
-    ((λ limit deepest. q .put-one .ensures .0 ∙ fitted-is limit deepest (null (a .type-code)) (length (a .to .now)) (le-ltb 13 (a .type-code) (q .before .before .before .if1 .left)) refl refl),
-    q .put-one .ensures .1 ∙ ap (λ (b : ℕ). bufferAfter (b ∷ []) (a .to .now) (writtenRead (q .put-one .result))) (q .before .null-byte .ensures))
+    let a = q .before .before .before .before .before .args in (
+      (λ limit deepest. q .put-one .ensures .0 ∙ fitted-is limit deepest (null (a .type-code)) (length (a .to .now)) (le-ltb 13 (a .type-code) (q .before .before .before .if1 .left)) refl refl),
+      q .put-one .ensures .1 ∙ ap (λ (b : ℕ). bufferAfter (b ∷ []) (a .to .now) (writtenRead (q .put-one .result))) (q .before .null-byte .ensures),
+    )
 
 pub write-null-spec : {M : Type 1} → statement M
 write-null-spec =

@@ -35,7 +35,7 @@ refused-requires : tie.Need-refused-requires
 refused-requires c κs = search needs
 
 returns : tie.Need-returns
-returns c = 
+returns c =
     let a = c .before .before .before .before .before .args in
     ((λ limit deepest. c .refused .ensures ∙ outside-is limit deepest (scalar (a .type-code) (a .body .now)) (length (a .to .now)) (ap not (sym (c .before .before .has-body .ensures)) ∙ c .before .if1 .taken)), kept (typedBytes (a .type-code) (a .body .now)) (a .to .now) (c .refused .ensures))
 
@@ -46,17 +46,17 @@ refused-requires-2 : tie.Need-refused-requires-2
 refused-requires-2 c κs = search needs
 
 returns-2 : tie.Need-returns-2
-returns-2 c = 
+returns-2 c =
     let a = c .before .before .before .before .before .before .before .args in
     ((λ limit deepest. c .refused2 .ensures ∙ long-is limit deepest (scalar (a .type-code) (a .body .now)) (length (a .to .now)) (ap not (sym (c .before .before .before .before .has-body .ensures)) ∙ c .before .before .before .if1 .left) (sym (c .before .before .past-nine .ensures) ∙ c .before .if2 .taken)), kept (typedBytes (a .type-code) (a .body .now)) (a .to .now) (c .refused2 .ensures))
 
 narrow-requires : tie.Need-narrow-requires
-narrow-requires c κs = 
+narrow-requires c κs =
     let a = c .before .before .before .before .before .before .args in
     omega (arith, below (a .type-code) (ap not (sym (c .before .before .before .has-body .ensures)) ∙ c .before .before .if1 .left))
 
 judge-scalar-requires : tie.Need-judge-scalar-requires
-judge-scalar-requires c κs = 
+judge-scalar-requires c κs =
     let a = c .before .before .before .before .before .before .before .args in
     omega (arith, c .narrow .ensures, below (a .type-code) (ap not (sym (c .before .before .before .before .has-body .ensures)) ∙ c .before .before .before .if1 .left))
 
@@ -64,7 +64,7 @@ enum-told : tie.Need-enum-told
 enum-told c = search needs
 
 put-typed-requires : tie.Need-put-typed-requires
-put-typed-requires c κs = 
+put-typed-requires c κs =
     let a = c .before .before .before .before .before .before .before .before .before .before .before .args in
     (omega (arith, c .before .before .before .before .narrow .ensures, below (a .type-code) (ap not (sym (c .before .before .before .before .before .before .before .before .has-body .ensures)) ∙ c .before .before .before .before .before .before .before .if1 .left)), (sym (c .before .before .before .before .before .before .past-nine .ensures) ∙ c .before .before .before .before .before .if2 .left))
 
@@ -75,16 +75,17 @@ same-length : tie.Need-same-length
 same-length c = search needs
 
 returns-3 : tie.Need-returns-3
-returns-3 c = 
+returns-3 c =
     let a = c .before .before .before .before .before .before .before .before .before .before .before .before .before .before .args in
     let q = c .before .before in
     let e = c .before .before .before .before .before .before .before .narrow .ensures in
-    let j = ap (λ (k : ℕ). judgedScalar k (a .body .now)) (sym e) ∙ sym (c .before .before .before .before .before .before .judge-scalar .ensures) ∙ ap doneRead (c .before .before .before .before .enum-told .given .1) in
-    ((λ limit deepest. q .put-typed .ensures .0 ∙ ap (λ (k : ℕ). fitted (length (a .to .now)) (length (typedBytes k (a .body .now))) done) e ∙ fitted-is limit deepest (scalar (a .type-code) (a .body .now)) (length (a .to .now)) (ap not (sym (c .before .before .before .before .before .before .before .before .before .before .before .has-body .ensures)) ∙ c .before .before .before .before .before .before .before .before .before .before .if1 .left) (sym (c .before .before .before .before .before .before .before .before .before .past-nine .ensures) ∙ c .before .before .before .before .before .before .before .before .if2 .left) j),
-    q .put-typed .ensures .1 ∙ ap (λ (k : ℕ). bufferAfter (typedBytes k (a .body .now)) (a .to .now) (writtenRead (q .put-typed .result))) e)
+    let j = ap (λ (k : ℕ). judgedScalar k (a .body .now)) (sym e) ∙ sym (c .before .before .before .before .before .before .judge-scalar .ensures) ∙ ap doneRead (c .before .before .before .before .enum-told .given .1) in (
+      (λ limit deepest. q .put-typed .ensures .0 ∙ ap (λ (k : ℕ). fitted (length (a .to .now)) (length (typedBytes k (a .body .now))) done) e ∙ fitted-is limit deepest (scalar (a .type-code) (a .body .now)) (length (a .to .now)) (ap not (sym (c .before .before .before .before .before .before .before .before .before .before .before .has-body .ensures)) ∙ c .before .before .before .before .before .before .before .before .before .before .if1 .left) (sym (c .before .before .before .before .before .before .before .before .before .past-nine .ensures) ∙ c .before .before .before .before .before .before .before .before .if2 .left) j),
+      q .put-typed .ensures .1 ∙ ap (λ (k : ℕ). bufferAfter (typedBytes k (a .body .now)) (a .to .now) (writtenRead (q .put-typed .result))) e,
+    )
 
 returns-4 : tie.Need-returns-4
-returns-4 c = 
+returns-4 c =
     let a = c .before .before .before .before .before .before .before .before .before .before .before .args in
     let e = c .before .before .before .before .narrow .ensures in
     let j = ap (λ (k : ℕ). judgedScalar k (a .body .now)) (sym e) ∙ sym (c .before .before .before .judge-scalar .ensures) ∙ ap doneRead (c .before .refusal .given .1) in

@@ -41,14 +41,14 @@ significant-requires : tie.Need-significant-requires
 significant-requires c κs = search needs
 
 sub-put-typed : tie.Need-sub-put-typed
-sub-put-typed c = 
+sub-put-typed c =
     let q = c .before in
     let b : List ℕ = q .before .before .big-endian .result in
     let n : length b ≡ 8 = eight (q .before .before .before .before .args .id) b (q .before .before .big-endian .ensures) in
     omega (arith, significant-high b (q .significant .result) (q .significant .ensures ∙ ap (significantFrom b 0) (sym n)))
 
 part-put-typed-start : tie.Need-part-put-typed-start
-part-put-typed-start c = 
+part-put-typed-start c =
     let q = c .before .before in
     let b : List ℕ = q .before .before .big-endian .result in
     let n : length b ≡ 8 = eight (q .before .before .before .before .args .id) b (q .before .before .big-endian .ensures) in
@@ -59,7 +59,7 @@ part-put-typed-end : tie.Need-part-put-typed-end
 part-put-typed-end c = search needs
 
 put-typed-requires : tie.Need-put-typed-requires
-put-typed-requires c κs = 
+put-typed-requires c κs =
     let q = c .before .before .before in
     let b : List ℕ = q .before .before .big-endian .result in
     (omega arith, told (length (take (8 - q .significant .result) (drop (q .significant .result) b))) (simp length-take (omega arith)))
@@ -68,15 +68,16 @@ same-length : tie.Need-same-length
 same-length c = search needs
 
 returns : tie.Need-returns
-returns c = 
+returns c =
     let q = c .before .before in
     let p = q .before .before .before .before in
     let a = p .before .before .before .before .args in
     let b : List ℕ = p .before .before .big-endian .result in
     let n : length b ≡ 8 = eight (a .id) b (p .before .before .big-endian .ensures) in
-    let e : take (8 - p .significant .result) (drop (p .significant .result) b) ≡ symbolBody (a .id) = body (a .id) b (p .significant .result) n (p .before .before .big-endian .ensures) (p .significant .ensures) in
-    ((λ limit deepest. q .put-typed .ensures .0 ∙ ap (λ (l : List ℕ). fitted (length (a .to .now)) (length (typedBytes 7 l)) done) e ∙ fitted-is limit deepest (symbol (a .id)) (length (a .to .now)) refl refl refl),
-    q .put-typed .ensures .1 ∙ ap (λ (l : List ℕ). bufferAfter (typedBytes 7 l) (a .to .now) (writtenRead (q .put-typed .result))) e)
+    let e : take (8 - p .significant .result) (drop (p .significant .result) b) ≡ symbolBody (a .id) = body (a .id) b (p .significant .result) n (p .before .before .big-endian .ensures) (p .significant .ensures) in (
+      (λ limit deepest. q .put-typed .ensures .0 ∙ ap (λ (l : List ℕ). fitted (length (a .to .now)) (length (typedBytes 7 l)) done) e ∙ fitted-is limit deepest (symbol (a .id)) (length (a .to .now)) refl refl refl),
+      q .put-typed .ensures .1 ∙ ap (λ (l : List ℕ). bufferAfter (typedBytes 7 l) (a .to .now) (writtenRead (q .put-typed .result))) e,
+    )
 
 pub write-symbol-spec : {M : Type 1} → statement M
 write-symbol-spec =

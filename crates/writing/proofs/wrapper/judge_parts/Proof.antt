@@ -24,7 +24,7 @@ not-judged-requires : tie.Need-not-judged-requires
 not-judged-requires c κs = search needs
 
 returns : tie.Need-returns
-returns c = 
+returns c =
     let a = c .before .before .before .before .args in
     λ v e. c .not-judged .ensures ∙ differs-is (a .limit) (a .deepest) (a .annotations .now) (a .value .now) v (λ q. c .before .if1 .taken (sym e ∙ q))
 
@@ -41,14 +41,14 @@ enum-known-refusal : tie.Need-enum-known-refusal
 enum-known-refusal c = search needs
 
 returns-2 : tie.Need-returns-2
-returns-2 c = 
+returns-2 c =
     let s = c .before .before .before .before .before .before .before in
     let a = s .args in
     let r : readIds (a .annotations .now) 0 (length (a .annotations .now)) ≡ gives done = sym (c .before .before .before .read-ids .ensures) ∙ ap doneRead (c .before .enum-told .given .1) in
     λ v e. c .check-body .ensures ∙ body-limited (a .limit) (a .deepest) Sequence (a .value .now) (s .pre) ∙ sym (ap (λ (o : Outcome Done). andThen o (thenValue (a .limit) (a .deepest) (a .value .now))) r) ∙ parts-is (a .limit) (a .deepest) (a .annotations .now) (a .value .now) v (e ∙ c .before .before .before .before .if1 .left)
 
 returns-3 : tie.Need-returns-3
-returns-3 c = 
+returns-3 c =
     let a = c .before .before .before .before .before .before .before .args in
     λ v e. then-by doneRead (thenValue (a .limit) (a .deepest) (a .value .now)) (c .before .refusal .given .1) (c .before .before .before .read-ids .ensures) ∙ parts-is (a .limit) (a .deepest) (a .annotations .now) (a .value .now) v (e ∙ c .before .before .before .before .if1 .left)
 

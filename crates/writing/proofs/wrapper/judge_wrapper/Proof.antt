@@ -22,7 +22,7 @@ not-judged-requires : tie.Need-not-judged-requires
 not-judged-requires c κs = search needs
 
 returns : tie.Need-returns
-returns c = 
+returns c =
     let a = c .before .before .before .before .args in
     c .not-judged .ensures ∙ none-is (a .limit) (a .deepest) (a .annotations .now) (a .value .now) (c .before .if1 .taken)
 
@@ -30,7 +30,7 @@ not-judged-requires-2 : tie.Need-not-judged-requires-2
 not-judged-requires-2 c κs = search needs
 
 returns-2 : tie.Need-returns-2
-returns-2 c = 
+returns-2 c =
     let a = c .before .before .before .before .before .args in
     c .not-judged2 .ensures ∙ empty-is (a .limit) (a .deepest) (a .annotations .now) (a .value .now) (c .before .before .if1 .left) (c .before .if2 .taken)
 
@@ -38,7 +38,7 @@ not-judged-requires-3 : tie.Need-not-judged-requires-3
 not-judged-requires-3 c κs = search needs
 
 returns-3 : tie.Need-returns-3
-returns-3 c = 
+returns-3 c =
     let a = c .before .before .before .before .before .before .args in
     c .not-judged3 .ensures ∙ many-is (a .limit) (a .deepest) (a .annotations .now) (a .value .now) (c .before .before .before .if1 .left) (c .before .before .if2 .left) (c .before .if3 .taken)
 
@@ -55,14 +55,14 @@ enum-known-refusal : tie.Need-enum-known-refusal
 enum-known-refusal c = search needs
 
 returns-4 : tie.Need-returns-4
-returns-4 c = 
+returns-4 c =
     let a = c .before .before .before .before .before .before .before .before .before .before .args in
     c .judge-parts .ensures (spansOf (c .before .before .inner .given .0 .0)) refl
     ∙ then-by framedRead (judgedParts (a .limit) (a .deepest) (a .annotations .now) (a .value .now)) (c .before .before .inner .given .1) (c .before .before .before .before .lent-value .ensures)
     ∙ within-is (a .limit) (a .deepest) (a .annotations .now) (a .value .now) (c .before .before .before .before .before .before .before .if1 .left) (c .before .before .before .before .before .before .if2 .left) (omega (arith, c .before .before .before .before .before .if3 .left))
 
 returns-5 : tie.Need-returns-5
-returns-5 c = 
+returns-5 c =
     let a = c .before .before .before .before .before .before .before .before .before .args in
     then-by framedRead (judgedParts (a .limit) (a .deepest) (a .annotations .now) (a .value .now)) (c .before .refusal .given .1) (c .before .before .before .lent-value .ensures)
     ∙ within-is (a .limit) (a .deepest) (a .annotations .now) (a .value .now) (c .before .before .before .before .before .before .if1 .left) (c .before .before .before .before .before .if2 .left) (omega (arith, c .before .before .before .before .if3 .left))

@@ -31,7 +31,7 @@ no-value-requires : tie.Need-no-value-requires
 no-value-requires c κs = search needs
 
 returns : tie.Need-returns
-returns c = 
+returns c =
     let s = c .before .before .before .before .before .before in
     let e = c .before .before .inner-fault .ensures ∙ ap (λ (d : TypeDescriptor). innerFault (d .kind)) (c .before .before .before .compared .ensures) in
     c .no-value .ensures ∙ lent-fault (s .args .value .now) (s .pre .0) (c .before .before .inner-fault .result) e (c .before .if1 .taken)
@@ -40,7 +40,7 @@ read-value-requires : tie.Need-read-value-requires
 read-value-requires c κs = search needs
 
 returns-2 : tie.Need-returns-2
-returns-2 c = 
+returns-2 c =
     let s = c .before .before .before .before .before .before in
     let e = c .before .before .inner-fault .ensures ∙ ap (λ (d : TypeDescriptor). innerFault (d .kind)) (c .before .before .before .compared .ensures) in
     c .read-value .ensures ∙ lent-value (s .args .value .now) (s .pre .0) (s .args .limit) (c .before .before .inner-fault .result) (s .pre .1) e (c .before .if1 .left)

@@ -34,7 +34,7 @@ add-n : tie.Need-add-n
 add-n c = search needs
 
 add-n-2 : tie.Need-add-n-2
-add-n-2 c = 
+add-n-2 c =
     let s = c .before .before .before .before in
     omega (arith, not-past (length (wrappedBytes (s .args .annotations .now) (s .args .value .now))) (s .pre), wrapped-length (s .args .annotations .now) (s .args .value .now), c .var-uint-size .ensures)
 
@@ -42,7 +42,7 @@ head-size-requires : tie.Need-head-size-requires
 head-size-requires c κs = search needs
 
 add-size : tie.Need-add-size
-add-size c = 
+add-size c =
     let s = c .before .before .before .before .before in
     let n : ℕ = length (wrappedBytes (s .args .annotations .now) (s .args .value .now)) in
     let h : n < 2 ^ 63 = not-past n (s .pre) in
@@ -53,7 +53,7 @@ refused-requires : tie.Need-refused-requires
 refused-requires c κs = search needs
 
 returns : tie.Need-returns
-returns c = 
+returns c =
     let a = c .before .before .before .before .before .before .before .args in
     let e = whole (a .annotations .now) (a .value .now) (c .before .before .before .var-uint-size .result) (c .before .before .head-size .result) (c .before .before .before .var-uint-size .ensures) (c .before .before .head-size .ensures) in
     (c .refused .ensures ∙ too-short (length (a .to .now)) (c .before .before .head-size .result + (c .before .before .before .var-uint-size .result + (length (a .annotations .now) + length (a .value .now)))) (length (wrapperBytes (a .annotations .now) (a .value .now))) e (c .before .if1 .taken), kept (wrapperBytes (a .annotations .now) (a .value .now)) (a .to .now) (c .refused .ensures))
@@ -83,7 +83,7 @@ same-length : tie.Need-same-length
 same-length c = search needs
 
 returns-2 : tie.Need-returns-2
-returns-2 c = 
+returns-2 c =
     let a = c .before .before .before .before .before .before .before .before .before .before .before .before .before .before .before .before .before .before .before .before .before .before .args in
     let h = c .before .before .before .before .before .before .before .before .before .before .before .before .before .before .before .before .before in
     let f = c .before .before .before .before .before .before .before .before .before .before .before .before .before .before .before .before .before .before in
@@ -93,12 +93,13 @@ returns-2 c =
     let head : ℕ = h .head-size .result in
     let n : ℕ = field + (length x + length y) in
     let room : head + n ≤ length (a .to .now) = omega (arith, c .before .before .before .before .before .before .before .before .before .before .before .before .before .before .before .before .if1 .left) in
-    let e = whole x y field head (f .var-uint-size .ensures) (h .head-size .ensures) in
-    (fits (length (a .to .now)) (head + n) (length (wrapperBytes x y)) e room,
-    c .before .before .put-bytes2 .ensures
-    ∙ ap (λ (l : List ℕ). sets l (head + field + length x) y)
-      (c .before .before .before .before .before .before .put-bytes .ensures ∙ ap (λ (l : List ℕ). sets l (head + field) x) (c .before .before .before .before .before .before .before .before .before .before .put-var-uint .ensures ∙ ap (λ (l : List ℕ). sets l head (varUIntBytes (length x))) (c .before .before .before .before .before .before .before .before .before .before .before .before .before .before .put-head .ensures)))
-    ∙ wrapper-stored x y (a .to .now) head field n (f .var-uint-size .ensures) (size x y field (f .var-uint-size .ensures)) (h .head-size .ensures) room)
+    let e = whole x y field head (f .var-uint-size .ensures) (h .head-size .ensures) in (
+      fits (length (a .to .now)) (head + n) (length (wrapperBytes x y)) e room,
+      c .before .before .put-bytes2 .ensures
+          ∙ ap (λ (l : List ℕ). sets l (head + field + length x) y)
+          (c .before .before .before .before .before .before .put-bytes .ensures ∙ ap (λ (l : List ℕ). sets l (head + field) x) (c .before .before .before .before .before .before .before .before .before .before .put-var-uint .ensures ∙ ap (λ (l : List ℕ). sets l head (varUIntBytes (length x))) (c .before .before .before .before .before .before .before .before .before .before .before .before .before .before .put-head .ensures)))
+          ∙ wrapper-stored x y (a .to .now) head field n (f .var-uint-size .ensures) (size x y field (f .var-uint-size .ensures)) (h .head-size .ensures) room,
+    )
 
 pub put-wrapper-spec : {M : Type 1} → statement M
 put-wrapper-spec =

@@ -20,12 +20,12 @@ use Rattle.writing.proofs.wrapper.wrapped_past_nine.Statement.{statemen
 use Rattle.writing.proofs.wrapper.wrapped_past_nine.Tie as tie
 
 returns : tie.Need-returns
-returns c = 
+returns c =
     let a = c .before .args in
     sym (past (varUIntSize (a .m) + (a .m + a .n)) (omega (arith, c .if1 .taken)))
 
 returns-2 : tie.Need-returns-2
-returns-2 c = 
+returns-2 c =
     let a = c .before .before .args in
     sym (past (varUIntSize (a .m) + (a .m + a .n)) (omega (arith, c .if2 .taken, c .before .if1 .left)))
 
@@ -36,7 +36,7 @@ add-past-nine : tie.Need-add-past-nine
 add-past-nine c = search needs
 
 add-past-nine-2 : tie.Need-add-past-nine-2
-add-past-nine-2 c = 
+add-past-nine-2 c =
     let a = c .before .before .before .args in
     omega (arith, size-high (a .m), c .var-uint-size .ensures, c .before .if2 .left, c .before .before .if1 .left)
 
@@ -44,7 +44,7 @@ past-nine-requires : tie.Need-past-nine-requires
 past-nine-requires c κs = search needs
 
 returns-3 : tie.Need-returns-3
-returns-3 c = 
+returns-3 c =
     let a = c .before .before .before .before .args in
     c .past-nine .ensures ∙ ap (λ (k : ℕ). pastNine (k + (a .m + a .n))) (c .before .var-uint-size .ensures)
 

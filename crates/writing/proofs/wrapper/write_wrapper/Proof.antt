@@ -35,7 +35,7 @@ refused-requires : tie.Need-refused-requires
 refused-requires c κs = search needs
 
 returns : tie.Need-returns
-returns c = 
+returns c =
     let a = c .before .before .before .before .before .before .args in
     (c .refused .ensures ∙ unlimited (a .limit) (a .deepest) (wrapper (a .annotations .now) (a .value .now)) (length (a .to .now)) (sym (c .before .before .limits-out .ensures) ∙ c .before .if1 .taken), kept (wrapperBytes (a .annotations .now) (a .value .now)) (a .to .now) (c .refused .ensures))
 
@@ -46,13 +46,13 @@ refused-requires-2 : tie.Need-refused-requires-2
 refused-requires-2 c κs = search needs
 
 returns-2 : tie.Need-returns-2
-returns-2 c = 
+returns-2 c =
     let a = c .before .before .before .before .before .before .before .before .args in
     let t = past-is (a .annotations .now) (a .value .now) (sym (c .before .before .wrapped-past-nine .ensures) ∙ c .before .if2 .taken) in
     (c .refused2 .ensures ∙ long-is (a .limit) (a .deepest) (wrapper (a .annotations .now) (a .value .now)) (length (a .to .now)) refl t ∙ in-limits (a .limit) (a .deepest) (wrapper (a .annotations .now) (a .value .now)) (length (a .to .now)) (sym (c .before .before .before .before .limits-out .ensures) ∙ c .before .before .before .if1 .left), kept (wrapperBytes (a .annotations .now) (a .value .now)) (a .to .now) (c .refused2 .ensures))
 
 judge-wrapper-requires : tie.Need-judge-wrapper-requires
-judge-wrapper-requires c κs = 
+judge-wrapper-requires c κs =
     let a = c .before .before .before .before .before .before .before .args in
     in-limit (a .limit) (a .deepest) (sym (c .before .before .before .limits-out .ensures) ∙ c .before .before .if1 .left)
 
@@ -60,7 +60,7 @@ enum-told : tie.Need-enum-told
 enum-told c = search needs
 
 put-wrapper-requires : tie.Need-put-wrapper-requires
-put-wrapper-requires c κs = 
+put-wrapper-requires c κs =
     let a = c .before .before .before .before .before .before .before .before .before .before .before .args in
     past-is (a .annotations .now) (a .value .now) (sym (c .before .before .before .before .before .wrapped-past-nine .ensures) ∙ c .before .before .before .before .if2 .left)
 
@@ -71,7 +71,7 @@ same-length : tie.Need-same-length
 same-length c = search needs
 
 returns-3 : tie.Need-returns-3
-returns-3 c = 
+returns-3 c =
     let a = c .before .before .before .before .before .before .before .before .before .before .before .before .before .before .args in
     let x = wrapper (a .annotations .now) (a .value .now) in
     let t = past-is (a .annotations .now) (a .value .now) (sym (c .before .before .before .before .before .before .before .before .wrapped-past-nine .ensures) ∙ c .before .before .before .before .before .before .before .if2 .left) in
@@ -79,7 +79,7 @@ returns-3 c =
     (c .before .before .put-wrapper .ensures .0 ∙ fitted-is (a .limit) (a .deepest) x (length (a .to .now)) refl t j ∙ in-limits (a .limit) (a .deepest) x (length (a .to .now)) (sym (c .before .before .before .before .before .before .before .before .before .before .limits-out .ensures) ∙ c .before .before .before .before .before .before .before .before .before .if1 .left), c .before .before .put-wrapper .ensures .1)
 
 returns-4 : tie.Need-returns-4
-returns-4 c = 
+returns-4 c =
     let a = c .before .before .before .before .before .before .before .before .before .before .before .args in
     let x = wrapper (a .annotations .now) (a .value .now) in
     let t = past-is (a .annotations .now) (a .value .now) (sym (c .before .before .before .before .before .wrapped-past-nine .ensures) ∙ c .before .before .before .before .if2 .left) in

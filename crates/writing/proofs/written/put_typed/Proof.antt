@@ -17,7 +17,7 @@ head-size-requires : tie.Need-head-size-requires
 head-size-requires c κs = search needs
 
 add-size : tie.Need-add-size
-add-size c = 
+add-size c =
     let a = c .before .before .before .args in
     let n : ℕ = length (a .body .now) in
     let h : n < 2 ^ 63 = not-past n (c .before .before .before .pre .1) in
@@ -27,7 +27,7 @@ refused-requires : tie.Need-refused-requires
 refused-requires c κs = search needs
 
 returns : tie.Need-returns
-returns c = 
+returns c =
     let q = c .before .before in
     let a = q .before .before .before .args in
     let e : q .head-size .result + length (a .body .now) ≡ length (typedBytes (a .type-code) (a .body .now)) = ap (λ (k : ℕ). k + length (a .body .now)) (q .head-size .ensures) ∙ sym (typed-length (a .type-code) (a .body .now)) in
@@ -46,7 +46,7 @@ same-length : tie.Need-same-length
 same-length c = search needs
 
 returns-2 : tie.Need-returns-2
-returns-2 c = 
+returns-2 c =
     let p = c .before .before .before .before .before .before in
     let q = p .before .before .before in
     let a = q .before .before .before .args in
@@ -54,11 +54,12 @@ returns-2 c =
     let h : ℕ = q .head-size .result in
     let room : h + n ≤ length (a .to .now) = omega (arith, p .before .before .if1 .left) in
     let e : h + n ≡ length (typedBytes (a .type-code) (a .body .now)) = ap (λ (k : ℕ). k + n) (q .head-size .ensures) ∙ sym (typed-length (a .type-code) (a .body .now)) in
-    let t : a .type-code * 16 / 16 ≡ a .type-code = omega arith in
-    (fits (length (a .to .now)) (h + n) (length (typedBytes (a .type-code) (a .body .now))) e room,
-    c .before .before .put-bytes .ensures
-    ∙ ap (λ (l : List ℕ). sets l h (a .body .now)) (p .put-head .ensures ∙ ap (λ (x : ℕ). sets (a .to .now) 0 (headBytes x n)) t)
-    ∙ typed-stored (a .type-code) (a .body .now) (a .to .now) h (q .head-size .ensures) room)
+    let t : a .type-code * 16 / 16 ≡ a .type-code = omega arith in (
+      fits (length (a .to .now)) (h + n) (length (typedBytes (a .type-code) (a .body .now))) e room,
+      c .before .before .put-bytes .ensures
+          ∙ ap (λ (l : List ℕ). sets l h (a .body .now)) (p .put-head .ensures ∙ ap (λ (x : ℕ). sets (a .to .now) 0 (headBytes x n)) t)
+          ∙ typed-stored (a .type-code) (a .body .now) (a .to .now) h (q .head-size .ensures) room,
+    )
 
 pub put-typed-spec : {M : Type 1} → statement M
 put-typed-spec =
