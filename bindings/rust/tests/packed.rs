@@ -22,9 +22,17 @@ fn clob(n: usize, bytes: usize) -> Vec<u8> {
 
 #[test]
 fn lengths_at_their_boundaries() {
-    for (n, header) in
-        [(0, 1), (13, 1), (14, 2), (127, 2), (128, 3), (16_383, 3), (16_384, 4), (2_097_151, 4), (2_097_152, 5)]
-    {
+    for (n, header) in [
+        (0, 1),
+        (13, 1),
+        (14, 2),
+        (127, 2),
+        (128, 3),
+        (16_383, 3),
+        (16_384, 4),
+        (2_097_151, 4),
+        (2_097_152, 5),
+    ] {
         let least = if n < 14 { 1 } else { header - 1 };
         for bytes in [least, least + 1, 9] {
             let map = clob(n, bytes);
@@ -60,7 +68,10 @@ fn what_stays() {
     let cases: [(&[u8], &[u8]); 8] = [
         (&[0xD1, 0x82, 0x84, 0x20], &[0xD1, 0x82, 0x84, 0x20]),
         (&[0xE6, 0x81, 0x84, 0xD1, 0x82, 0x84, 0x00], &[0xE3, 0x81, 0x84, 0xD0]),
-        (&[0x48, 0, 0, 0, 0, 0, 0, 0, 0, 0x23, 0, 0, 1], &[0x48, 0, 0, 0, 0, 0, 0, 0, 0, 0x23, 0, 0, 1]),
+        (
+            &[0x48, 0, 0, 0, 0, 0, 0, 0, 0, 0x23, 0, 0, 1],
+            &[0x48, 0, 0, 0, 0, 0, 0, 0, 0, 0x23, 0, 0, 1],
+        ),
         (&[0x5E, 0x80, 0x2E, 0x81, 0x07], &[0x50, 0x21, 0x07]),
         (&[0xE4, 0x00, 0x81, 0x84, 0x20], &[0xE3, 0x81, 0x84, 0x20]),
         (
@@ -68,13 +79,19 @@ fn what_stays() {
             &[0xD1, 0x83, 0x00, 0x84, 0x20, 0xE4, 0x82, 0x00, 0x84, 0x20],
         ),
         (&[0x3F, 0x1F, 0x0F, 0x11], &[0x3F, 0x1F, 0x0F, 0x11]),
-        (&[0x00, 0xE0, 0x01, 0x00, 0xEA, 0x01, 0xFF, 0x20], &[0xE0, 0x01, 0x00, 0xEA, 0x20]),
+        (
+            &[0x00, 0xE0, 0x01, 0x00, 0xEA, 0x01, 0xFF, 0x20],
+            &[0xE0, 0x01, 0x00, 0xEA, 0x20],
+        ),
     ];
     for (map, expected) in cases {
         let packed = pack(map).unwrap();
         assert_eq!(packed, expected);
         assert_eq!(packed_size(map), Ok(expected.len()));
-        let counts = Counts { pads: 0, ..check(map).unwrap() };
+        let counts = Counts {
+            pads: 0,
+            ..check(map).unwrap()
+        };
         assert_eq!(check(&packed), Ok(counts));
         assert_eq!(walk(map).count(), walk(&packed).count());
     }
@@ -83,15 +100,39 @@ fn what_stays() {
 #[test]
 fn refusals() {
     let mut packed = [0xAA; 4];
-    assert_eq!(pack_into(&[0x12], &mut []), Err(Refusal { number: Refusal::BAD_BOOL, position: 0 }));
+    assert_eq!(
+        pack_into(&[0x12], &mut []),
+        Err(Refusal {
+            number: Refusal::BAD_BOOL,
+            position: 0
+        })
+    );
     assert_eq!(
         pack_into(&[0x21, 0x07, 0x00], &mut packed[..1]),
-        Err(Refusal { number: Refusal::NO_ROOM_TO_PACK, position: 2 })
+        Err(Refusal {
+            number: Refusal::NO_ROOM_TO_PACK,
+            position: 2
+        })
     );
     assert_eq!(packed, [0xAA; 4]);
     assert_eq!(pack_into(&[0x21, 0x07, 0x00], &mut packed), Ok(2));
     assert_eq!(packed, [0x21, 0x07, 0xAA, 0xAA]);
-    let none = Limits { depth: 65, ..Limits::DEFAULT };
-    assert_eq!(none.packed_size(&[]), Err(Refusal { number: Refusal::LIMIT_OUT_OF_RANGE, position: 0 }));
-    assert_eq!(none.pack(&[]), Err(Refusal { number: Refusal::LIMIT_OUT_OF_RANGE, position: 0 }));
+    let none = Limits {
+        depth: 65,
+        ..Limits::DEFAULT
+    };
+    assert_eq!(
+        none.packed_size(&[]),
+        Err(Refusal {
+            number: Refusal::LIMIT_OUT_OF_RANGE,
+            position: 0
+        })
+    );
+    assert_eq!(
+        none.pack(&[]),
+        Err(Refusal {
+            number: Refusal::LIMIT_OUT_OF_RANGE,
+            position: 0
+        })
+    );
 }

@@ -33,6 +33,11 @@ use Rattle.checking.proofs.Walked.{checks-walk, accepted-walk, refused-walk, fi
 use Rattle.checking.proofs.Holding.{counts-held}
 use Rattle.checking.proofs.Baking.{baking}
 use Rattle.checking.proofs.Moving.{items-alike}
+use Rattle.encoding.proofs.VarUInts.{var-uint-sized, var-uint-shortest}
+use Rattle.encoding.proofs.Heads.{head-shortest, typed-back, wrapper-back}
+use Rattle.packing.proofs.Twice.{packed-short, packed-tree, packed-twice}
+use Rattle.packing.proofs.Accepted.{packed-accepted}
+use Rattle.packing.proofs.SameItems.{same-items}
 use Rattle.runs.proofs.Overwriting.{overwriting}
 use Rattle.runs.proofs.OneBody.{still-reached}
 use Rattle.runs.proofs.PartSets.{parts-are-sets}
@@ -109,6 +114,16 @@ equal =
       countsHeld = counts-held;
       baking = baking;
       itemsAlike = items-alike;
+      varUIntSized = var-uint-sized;
+      varUIntShortest = var-uint-shortest;
+      headShortest = head-shortest;
+      typedBack = typed-back;
+      wrapperBack = wrapper-back;
+      packedShort = packed-short;
+      packedTree = packed-tree;
+      packedTwice = packed-twice;
+      packedAccepted = packed-accepted;
+      sameItems = same-items;
       limitRange = limit-range;
       limitsRange = limits-range;
       depthBound = visit-depth;

@@ -23,6 +23,8 @@ use Rattle.walking.specs.Theorems.{Exact, NeverOutside, LimitsRange, DepthBound
 use Rattle.checking.specs.Theorems.{ChecksWalk, AcceptedWalk, RefusedWalk, FirstRefusal, CountsHeld}
 use Rattle.checking.specs.Unrefused.{Baking}
 use Rattle.checking.specs.Moved.{ItemsAlike}
+use Rattle.encoding.specs.Meaning.{VarUIntSized, VarUIntShortest, HeadShortest, TypedBack, WrapperBack}
+use Rattle.packing.specs.Theorems.{PackedShort, PackedTree, PackedTwice, PackedAccepted, SameItems}
 use Rattle.runs.specs.Theorems.{Overwriting, PartsAreSets, StillReached}
 use Rattle.runs.specs.Program.{ProgramEnds, ProgramTiling, ProgramOverwriting, ProgramOneBody}
 use Rattle.overwriting.specs.TextsStay.{TextsStay}
@@ -127,6 +129,19 @@ pub record Equal : Type 0 where
   pub countsHeld : CountsHeld
   pub baking : Baking
   pub itemsAlike : ItemsAlike
+  -- packed maps, by the change requests A.11 and A.12: lengths are in their shortest form, and what is written is read back wherever it stands; a packed map is no
+  -- longer than the map and read as the same tree; "packing twice changes nothing"; the check accepts it, and "a walk of the result meets the same items as before,
+  -- offsets and lengths apart"
+  pub varUIntSized : VarUIntSized
+  pub varUIntShortest : VarUIntShortest
+  pub headShortest : HeadShortest
+  pub typedBack : TypedBack
+  pub wrapperBack : WrapperBack
+  pub packedShort : PackedShort
+  pub packedTree : PackedTree
+  pub packedTwice : PackedTwice
+  pub packedAccepted : PackedAccepted
+  pub sameItems : SameItems
   -- the limits, by the change request A.9: each theorem here is for every limit of annotation bytes and every depth. 68 is answered outside 255 to 65535 and
   -- 1 to 64, and there alone; and nothing is met deeper than the depth given.
   pub limitRange : LimitRange

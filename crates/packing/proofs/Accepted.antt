@@ -212,10 +212,10 @@ module _ (P : Parts) (room : ℕ) (v : Spans) (c : List ℕ) where
   scalar-inside : isContainer v ≡ false → insideOf P room v c done ≡ gives (counting (placeOf v) 1 c)
   scalar-inside e = rw e
 
-  held-inside : isContainer v ≡ true → ltb room leastRoom ≡ false → insideOf P room v c done ≡ P (bodyRules v) (room - 1) (v .end) (v .body) (counting (placeOf v) 1 c)
+  pub held-inside : isContainer v ≡ true → ltb room leastRoom ≡ false → insideOf P room v c done ≡ P (bodyRules v) (room - 1) (v .end) (v .body) (counting (placeOf v) 1 c)
   held-inside e l = rw (e, l)
 
-  held-room : {d : List ℕ} → isContainer v ≡ true → insideOf P room v c done ≡ gives d → ltb room leastRoom ≡ false
+  pub held-room : {d : List ℕ} → isContainer v ≡ true → insideOf P room v c done ≡ gives d → ltb room leastRoom ≡ false
   held-room {d} e q = by-case (ltb room leastRoom) (λ l. absurd (no (ltb room leastRoom) l (rw e at q))) (λ l. l)
     where
       no : (b : Bool) → b ≡ true → pick b (refuses 37 (v .descriptor)) (P (bodyRules v) (room - 1) (v .end) (v .body) (counting (placeOf v) 1 c)) ≡ gives d → ⊥
@@ -229,7 +229,7 @@ pub record Checks (s : List ℕ) (P : Parts) (O : List ℕ → Outcome (List ℕ
   pub inside : insideOf P room v c done ≡ gives behind
   pub onward : O behind ≡ gives d
 
-checks : (s : List ℕ) (P : Parts) (O : List ℕ → Outcome (List ℕ)) (room : ℕ) (v : Spans) (c d : List ℕ) → andThen (valueCheck s P room v c) O ≡ gives d → Checks s P O room v c d
+pub checks : (s : List ℕ) (P : Parts) (O : List ℕ → Outcome (List ℕ)) (room : ℕ) (v : Spans) (c d : List ℕ) → andThen (valueCheck s P room v c) O ≡ gives d → Checks s P O room v c d
 unfolding valueCheck
 checks s P O room v c d e =
     let q = then-gives (valueCheck s P room v c) O e in

@@ -11,3 +11,4 @@ pub mod Unrolled
 pub mod Fronts
 pub mod Buffers
 pub mod Accepted
+pub mod SameItems

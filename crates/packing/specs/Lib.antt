@@ -1,5 +1,6 @@
 pub mod Tree
 pub mod Packed
+pub mod Meant
 pub mod Answers
 pub mod Read
 pub mod Theorems
