@@ -2,11 +2,10 @@
 -- Assumes nothing.
 use Prim.Native.Nat.{ℕ, _≤_, _<_}
 use borrow.Author.Tests.{lt-ltb, le-ltb}
-use mathlib.Core.Path.{_≡_, refl, _∙_, sym, ap}
+use mathlib.Core.Path.{_≡_, refl, _∙_, ap}
 use mathlib.Core.List.{List}
 use lib.ListN.{length}
-use lib.Dec.{ltb}
-use Rattle.numbers.specs.Outcome.{Outcome, gives, refuses, pick, refuseIf}
+use Rattle.numbers.specs.Outcome.{Outcome, gives, refuses}
 use Rattle.writing.specs.Answers.{bufferAfter}
 use Rattle.records.specs.Buffer.{recordSize, recordIn, numberOf, numberIn, returned, returnedBy}
 use Rattle.writes.specs.Writes.{writeWords, flagged, Wrote}

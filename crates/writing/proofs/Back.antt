@@ -1,33 +1,31 @@
 -- A value that is written is framed as it was written, wherever it stands.
 -- Assumes nothing.
-use Prim.Native.Nat.{ℕ, suc, _+_, _-_, _*_, _/_, _%_, _^_, _≤_, _<_}
+use Prim.Native.Nat.{ℕ, _+_, _-_, _≤_}
 use native.Mathlib.Omega.{arith}
-use borrow.Author.Tests.{ltb-true, ltb-false, eqb-true, eqb-false, lt-ltb, le-ltb, eq-eqb, ne-eqb, not-false}
-use mathlib.Core.Path.{_≡_, refl, _∙_, sym, ap, subst}
+use borrow.Author.Tests.{ltb-true, ltb-false, eq-eqb, not-false}
+use mathlib.Core.Path.{_≡_, refl, _∙_, sym, subst}
 use mathlib.Core.Bool.{Bool, true, false, not, true≢false}
 use mathlib.Core.Logic.{_⊎_, inl, inr}
 use mathlib.Core.List.{List, [], _∷_, _++_}
-use lib.ListN.{length, getD}
+use lib.ListN.{length}
 use lib.Dec.{ltb, eqb}
-use Rattle.numbers.specs.Outcome.{Outcome, gives, refuses, pick, refuseIf}
+use Rattle.numbers.specs.Outcome.{gives}
 use Rattle.numbers.specs.Bytes.{part}
 use Rattle.numbers.proofs.Outcomes.{by-test, by-case, refuse-gives}
-use Rattle.framing.specs.Spans.{Spans}
-use Rattle.framing.specs.Answers.{shortTimestamp, readValue}
-use Rattle.framing.specs.Format.{typeAt, codeAt, ValueType, typed, null-null, ValueLength, none, null, Legal, TypedValue, plain}
-use Rattle.framing.specs.ShortValue.{bareSpans}
+use Rattle.framing.specs.Answers.{shortTimestamp}
+use Rattle.framing.specs.Format.{plain}
 use Rattle.framing.proofs.Completeness.{values-complete}
-use Rattle.checking.specs.Reading.{Done, done}
+use Rattle.checking.specs.Reading.{done}
 use Rattle.encoding.specs.Fields.{bigEndian}
-use Rattle.encoding.specs.Heads.{headBytes, headSize, typedBytes, typedSpans}
+use Rattle.encoding.specs.Heads.{headBytes, typedBytes, typedSpans}
 use Rattle.encoding.specs.Meaning.{StandsAt, Writable}
 use Rattle.encoding.proofs.VarUInts.{uint-written}
 use Rattle.encoding.proofs.Heads.{head-length, typed-back}
-use Rattle.encoding.proofs.Standing.{stands-rest, stands-byte}
-use Rattle.writing.specs.Things.{Thing, int, intType, float, symbol, scalar, container, significant, floatBody, symbolBody, nullByte, boolByte, written}
-use Rattle.writing.specs.Answers.{hasBody, isContainer, pastNine, judgedScalar, judgedContainer, judged}
-use Rattle.writing.specs.Theorems.{Sound, Bodied, an-int, a-float, a-symbol, a-scalar, a-container, FramedBack, ValuesBack, NullsBack, BoolsBack}
-use Rattle.writing.proofs.Lengths.{not-past, told}
+use Rattle.encoding.proofs.Standing.{stands-rest}
+use Rattle.writing.specs.Things.{Thing, intType, float, significant, floatBody, symbolBody, written}
+use Rattle.writing.specs.Answers.{hasBody, isContainer, judgedScalar}
+use Rattle.writing.specs.Theorems.{Sound, Bodied, an-int, a-float, a-symbol, a-scalar, a-container, ValuesBack}
+use Rattle.writing.proofs.Lengths.{not-past}
 use Rattle.writing.proofs.OneByte.{one-byte-struct}
 
 -- ---- what a representation can be

@@ -3,7 +3,7 @@
 -- Assumes nothing.
 use Prim.Native.Nat.{ℕ, zero, suc, _+_, _-_, _≤_, _<_}
 use native.Mathlib.Omega.{arith}
-use mathlib.Core.Path.{_≡_, refl, _∙_, sym, ap, subst}
+use mathlib.Core.Path.{_≡_, refl}
 use mathlib.Core.Bool.{Bool, true, false, not}
 use mathlib.Core.List.{List}
 use lib.ListN.{length, getD}
@@ -13,7 +13,7 @@ use Rattle.numbers.proofs.Outcomes.{each-of}
 use Rattle.numbers.proofs.Moving.{Moved, given-on, refused-on, same-moved}
 use Rattle.framing.specs.Limits.{outOfRange}
 use Rattle.framing.specs.Spans.{Spans}
-use Rattle.framing.specs.Answers.{Annotated, ident, finished, readAnnotation}
+use Rattle.framing.specs.Answers.{Annotated, ident, finished}
 use Rattle.bodies.specs.Utf8.{utf8}
 use Rattle.bodies.specs.Magnitude.{significantFrom}
 use Rattle.bodies.specs.Decimal.{Split, decimal as splitDecimal, movedDecimal}
@@ -23,18 +23,18 @@ use Rattle.bodies.specs.declared.timestamp.Stamp.{Stamp}
 use Rattle.bodies.proofs.Splitting.{decimals-moved}
 use Rattle.bodies.proofs.StampMoving.{timestamps-moved}
 use Rattle.stepping.specs.Items.{Item, finish, marker, value, field}
-use Rattle.stepping.specs.Answers.{Found, found}
+use Rattle.stepping.specs.Answers.{found}
 use Rattle.stepping.specs.Runs.{cursor}
 use Rattle.stepping.specs.declared.cursor.Rules.{Rules}
-use Rattle.values.specs.Scalars.{typeOf, codeOf, isContainer, bodyRules, Scalar, null, bool, int, float, decimal, timestamp, symbol, string, clob, blob, container}
+use Rattle.values.specs.Scalars.{typeOf, codeOf, isContainer, bodyRules, Scalar}
 use Rattle.values.specs.Scalars.{boolOf, positiveOf, negativeOf, floatOf, symbolOf, stringOf, typedOf, scalarOf}
 use Rattle.checking.specs.Counts.{markers, pads, placeOf, counting}
 use Rattle.checking.specs.Reading.{Done, done, asDone, onId, idsFrom, readIds, readBody, readContent, contentNext, readItem}
-use Rattle.checking.specs.Check.{Parts, leastRoom, insideOf, valueCheck, onAnswer, onFound, partCheck}
+use Rattle.checking.specs.Check.{Parts, leastRoom, insideOf, valueCheck, onAnswer, partCheck}
 use Rattle.checking.proofs.Ids.{NextIn, annotation-each}
 use Rattle.checking.proofs.Moving.{movedId, annotation-moved, difference, utf8-moved, significant-moved}
 use Rattle.writing.proofs.FramesMoved.{movedSpans}
-use Rattle.writing.proofs.StepsMoved.{movedItem, StepMoved, found-moved}
+use Rattle.writing.proofs.StepsMoved.{movedItem, found-moved}
 use Rattle.writing.proofs.ItemsIn.{PlacesIn, ItemIn, found-in}
 
 pub data Counted {A B : Type 0} (n : ℕ) : Outcome A → Outcome B → Type 0 where

@@ -3,21 +3,19 @@
 use Prim.Native.Nat.{ℕ, _+_, _-_, _≤_, _<_}
 use native.Mathlib.Omega.{arith}
 use borrow.Author.Tests.{eqb-false}
-use mathlib.Core.Path.{_≡_, refl, sym, subst}
-use mathlib.Core.Bool.{Bool, true, false, not}
+use mathlib.Core.Path.{_≡_, sym, subst}
+use mathlib.Core.Bool.{not}
 use mathlib.Core.List.{List}
 use lib.ListN.{length, getD}
 use lib.Dec.{ltb, eqb}
-use Rattle.numbers.specs.Outcome.{Outcome, gives, refuses, refuseIf, pick, andThen}
+use Rattle.numbers.specs.Outcome.{gives, andThen}
 use Rattle.numbers.specs.Answers.{Unsigned, varUInt}
-use Rattle.numbers.specs.Descriptor.{descriptorOf}
 use Rattle.numbers.specs.declared.type_descriptor.TypeDescriptor.{TypeDescriptor}
 use Rattle.numbers.proofs.Outcomes.{inside, each-of}
-use Rattle.numbers.proofs.Meaning.{var-uint-bounded}
-use Rattle.numbers.proofs.Moving.{Moved, given-on, refused-on, moved-refuse, moved-pick, moved-then, same-moved, movedUnsigned, var-uint-moved}
-use Rattle.framing.specs.Answers.{peekedDescriptor, Sized, sizedBy, lengthAt, valueCode, badFloat, shortTimestamp, emptyOrdered, lengthTests, valueLength, fitting, valueWithoutAnnotations, padded, padAt, Wrapping, wrapperTests, annotationsAt, wrapperAt, innerValue, wrapped, unwrapped, annotatedValue, valueAt, readValue, frameAt, readFrame, Frame, padding, valued, asPadding, asValued, isPad, isWrapper, noValue}
+use Rattle.numbers.proofs.Moving.{Moved, given-on, moved-refuse, moved-pick, moved-then, same-moved, movedUnsigned, var-uint-moved}
+use Rattle.framing.specs.Answers.{peekedDescriptor, Sized, sizedBy, lengthAt, valueCode, badFloat, shortTimestamp, emptyOrdered, lengthTests, valueLength, fitting, valueWithoutAnnotations, padded, padAt, Wrapping, wrapperTests, annotationsAt, wrapperAt, innerValue, wrapped, unwrapped, annotatedValue, valueAt, frameAt, readFrame, Frame, padding, valued, asPadding, asValued, isPad, isWrapper, noValue}
 use Rattle.framing.specs.Spans.{Spans, Padding}
-use Rattle.framing.proofs.Bounds.{PeekedAt, peeked-each, SizedAt, length-each, WrapperAt, wrapper-each, Ordered, inner-peeked-each}
+use Rattle.framing.proofs.Bounds.{PeekedAt, peeked-each, SizedAt, length-each, WrapperAt, wrapper-each}
 
 pub moved-is : {A : Type 0} {n : ℕ} {f : A → A} (a : A) {b : A} → b ≡ f a → Moved n f (gives a) (gives b)
 moved-is {n = n} {f = f} a e = subst (λ b. Moved n f (gives a) (gives b)) (sym e) given-on

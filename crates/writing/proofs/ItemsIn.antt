@@ -3,20 +3,19 @@
 use Prim.Native.Nat.{ℕ, zero, suc, _+_, _-_, _≤_, _<_}
 use native.Mathlib.Omega.{arith}
 use borrow.Author.Tests.{ltb-false}
-use mathlib.Core.Path.{_≡_, refl}
-use mathlib.Core.Bool.{Bool, true, false, not}
+use mathlib.Core.Bool.{not}
 use mathlib.Core.List.{List}
-use lib.ListN.{length, getD}
+use lib.ListN.{getD}
 use lib.Dec.{ltb, eqb}
-use Rattle.numbers.specs.Outcome.{Outcome, gives, refuses, pick, outsideOf}
+use Rattle.numbers.specs.Outcome.{Outcome, outsideOf}
 use Rattle.numbers.proofs.Outcomes.{by-test, Each, given, refused, each-refuse, each-pick, each-then}
 use Rattle.numbers.proofs.Meaning.{var-uint-bounded}
 use Rattle.framing.specs.Spans.{Spans}
 use Rattle.framing.specs.Limits.{outOfRange}
-use Rattle.framing.specs.Answers.{Frame, padding, valued}
+use Rattle.framing.specs.Answers.{Frame}
 use Rattle.framing.proofs.Bounds.{FrameIn, pad-in, value-in, frame-each}
 use Rattle.stepping.specs.Items.{Item, finish, marker, value, field}
-use Rattle.stepping.specs.Answers.{Tile, skip, hand, versionPasses, markerAt, asTile, framedAt, asField, namedAt, fieldAt, tileAt, Found, stop, onTile, skipPads, found}
+use Rattle.stepping.specs.Answers.{Tile, skip, hand, versionPasses, markerAt, asTile, framedAt, asField, namedAt, fieldAt, tileAt, Found, onTile, skipPads, found}
 use Rattle.stepping.specs.Runs.{cursor}
 use Rattle.stepping.specs.declared.cursor.Rules.{Rules}
 use Rattle.stepping.specs.declared.cursor.Rules.the-variants.{Stream, Sequence, Fields}

@@ -1,34 +1,32 @@
 -- What is refused of a container that is to be written is what the check refuses of it as a map: the map's one value is framed, and its body is checked as it is
 -- by itself.
 -- Assumes nothing.
-use Prim.Native.Nat.{ℕ, zero, suc, _+_, _-_, _≤_, _<_}
+use Prim.Native.Nat.{ℕ, suc, _+_, _-_, _≤_, _<_}
 use native.Mathlib.Omega.{arith}
 use borrow.Author.Tests.{lt-ltb, le-ltb, ltb-true, ltb-false, ne-eqb, not-false}
 use mathlib.Core.Path.{_≡_, refl, _∙_, sym, ap, subst}
 use mathlib.Core.Bool.{Bool, true, false, not, true≢false}
-use mathlib.Core.List.{List, [], _++_}
+use mathlib.Core.List.{List, _++_}
 use lib.ListN.{length, getD}
 use lib.Dec.{ltb, eqb}
-use Rattle.numbers.specs.Outcome.{Outcome, gives, refuses, pick, andThen}
-use Rattle.numbers.specs.Bytes.{part}
-use Rattle.numbers.proofs.Outcomes.{by-test, by-case, inside}
+use Rattle.numbers.specs.Outcome.{Outcome, gives, refuses, andThen}
+use Rattle.numbers.proofs.Outcomes.{by-test, inside}
 use Rattle.framing.specs.Limits.{outOfRange}
 use Rattle.framing.specs.Spans.{Spans}
 use Rattle.framing.specs.Answers.{valued, readFrame}
 use Rattle.framing.specs.Format.{plain}
 use Rattle.framing.proofs.Completeness.{values-complete}
-use Rattle.stepping.specs.Items.{Item, finish, value}
-use Rattle.stepping.specs.Answers.{Found, stop, framedAt, tileAt, skipPads, found}
+use Rattle.stepping.specs.Items.{value}
+use Rattle.stepping.specs.Answers.{stop, framedAt, tileAt, skipPads, found}
 use Rattle.stepping.specs.Runs.{cursor}
 use Rattle.stepping.specs.declared.cursor.Rules.{Rules}
-use Rattle.stepping.specs.declared.cursor.Rules.the-variants.{Stream, Sequence, Fields}
-use Rattle.values.specs.Scalars.{isContainer, bodyRules, Scalar, scalarOf, typedOf}
-use Rattle.values.specs.Scalars as read
+use Rattle.stepping.specs.declared.cursor.Rules.the-variants.{Stream}
+use Rattle.values.specs.Scalars.{isContainer, bodyRules, scalarOf, typedOf}
 use Rattle.walking.specs.Walk.{limitsOut}
 use Rattle.walking.proofs.Depths.{in-limit}
 use Rattle.checking.specs.Counts.{none, pads, placeOf, counting}
-use Rattle.checking.specs.Reading.{Done, done, asDone, readBody, readIds, readContent, contentNext, readItem}
-use Rattle.checking.specs.Check.{Parts, leastRoom, insideOf, valueCheck, onFound, partCheck, wholeCheck}
+use Rattle.checking.specs.Reading.{done, asDone, readContent, readItem}
+use Rattle.checking.specs.Check.{Parts, valueCheck, onFound, partCheck, wholeCheck}
 use Rattle.checking.specs.Body.{bodyCheck}
 use Rattle.checking.specs.Private.Whole.{full}
 use Rattle.checking.proofs.Ids.{ids-none}
@@ -36,11 +34,9 @@ use Rattle.checking.proofs.Unrolled.{unrolled, whole-in}
 use Rattle.encoding.specs.Heads.{headBytes, headCode, headByte, headSize, typedBytes, typedSpans}
 use Rattle.encoding.specs.Meaning.{StandsAt, Writable}
 use Rattle.encoding.proofs.Heads.{head-type, head-code, head-length, typed-length, typed-back}
-use Rattle.encoding.proofs.Standing.{stands-at, stands-by, stands-byte, stands-first, stands-rest}
-use Rattle.writing.specs.Things.{container}
+use Rattle.encoding.proofs.Standing.{stands-at, stands-by, stands-rest}
 use Rattle.writing.specs.Answers.{rulesOf, judgedContainer}
 use Rattle.writing.specs.Answers as ours
-use Rattle.writing.specs.Theorems.{Sound}
 use Rattle.writing.specs.Judged.{countedFrom, JudgedContainers, AcceptedContainers}
 use Rattle.writing.proofs.Lengths.{not-past}
 use Rattle.writing.proofs.ChecksMoved.{Counted, both-give, both-refuse, part-counted}

@@ -3,13 +3,13 @@
 use Prim.Native.Nat.{ℕ, _+_, _^_, _≤_, _<_}
 use native.Mathlib.Omega.{arith}
 use borrow.Author.Tests.{ltb-true, ltb-false, lt-ltb, le-ltb}
-use mathlib.Core.Path.{_≡_, refl, _∙_, sym, ap}
+use mathlib.Core.Path.{_≡_, _∙_, sym, ap}
 use mathlib.Core.Bool.{true, false}
 use mathlib.Core.List.{List, _++_}
 use lib.ListN.{length, drop}
 use lib.Seq.{sets, sets-eq}
 use lib.Dec.{ltb}
-use Rattle.numbers.specs.Outcome.{Outcome, gives, refuses, refuseIf}
+use Rattle.numbers.specs.Outcome.{Outcome, gives, refuses}
 use Rattle.numbers.proofs.Outcomes.{by-case}
 use Rattle.checking.specs.Reading.{done}
 use Rattle.encoding.specs.Fields.{varUIntSize, varUIntBytes}

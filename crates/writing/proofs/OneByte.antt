@@ -1,25 +1,21 @@
 -- A struct's body of one byte is refused: a field ID with nothing after it, or one without a last byte.
 -- Assumes nothing.
-use Prim.Native.Nat.{ℕ, zero, suc, _-_}
+use Prim.Native.Nat.{ℕ, _-_}
 use native.Mathlib.Omega.{arith}
 use borrow.Author.Tests.{eq-eqb}
-use mathlib.Core.Path.{_≡_, refl, _∙_, sym, ap}
-use mathlib.Core.Bool.{true, false}
+use mathlib.Core.Path.{_≡_, refl, _∙_, sym}
 use mathlib.Core.List.{List}
 use lib.ListN.{length}
-use lib.Dec.{ltb, eqb}
 use Rattle.numbers.specs.Outcome.{Outcome, gives, refuses, andThen}
 use Rattle.numbers.specs.Answers.{Unsigned, varUInt}
 use Rattle.numbers.proofs.Outcomes.{by-case, inside, Each, given, refused}
 use Rattle.numbers.proofs.Meaning.{Bounded, var-uint-bounded}
 use Rattle.framing.specs.Limits.{outOfRange}
-use Rattle.stepping.specs.Items.{Item}
-use Rattle.stepping.specs.Answers.{Tile, namedAt, fieldAt, tileAt, Found, onTile, skipPads, found}
+use Rattle.stepping.specs.Answers.{namedAt, fieldAt, tileAt, skipPads, found}
 use Rattle.stepping.specs.Runs.{cursor}
 use Rattle.stepping.specs.declared.cursor.Rules.the-variants.{Fields}
-use Rattle.checking.specs.Counts.{none, counting, pads}
-use Rattle.checking.specs.Reading.{Done, done, asDone}
-use Rattle.checking.specs.Check.{onAnswer, onFound, partCheck}
+use Rattle.checking.specs.Reading.{done}
+use Rattle.checking.specs.Check.{partCheck}
 use Rattle.checking.specs.Body.{bodyCheck}
 use Rattle.writing.specs.Answers.{judgedContainer}
 

@@ -3,16 +3,16 @@
 use Prim.Native.Nat.{ℕ, _+_, _-_, _*_, _/_, _%_, _≤_, _<_}
 use native.Mathlib.Omega.{arith}
 use borrow.Author.Tests.{ltb-true, ltb-false, eqb-true, eqb-false}
-use mathlib.Core.Path.{_≡_, refl, _∙_, sym, ap, subst}
-use mathlib.Core.Bool.{Bool, true, false}
-use mathlib.Core.Logic.{_⊎_, inl, inr}
+use mathlib.Core.Path.{_≡_, refl, sym, subst}
+use mathlib.Core.Bool.{true, false}
+use mathlib.Core.Logic.{inr}
 use mathlib.Core.List.{List, [], _∷_}
-use lib.ListN.{length, getD}
+use lib.ListN.{getD}
 use lib.Dec.{ltb, eqb}
 use Rattle.numbers.specs.Outcome.{pick, gives}
 use Rattle.numbers.proofs.Outcomes.{by-test, by-case}
 use Rattle.framing.specs.Answers.{readValue}
-use Rattle.framing.specs.Format.{typeAt, codeAt, ValueType, typed, null-null, ValueLength, none, null, Legal, TypedValue, plain}
+use Rattle.framing.specs.Format.{ValueType, typed, null-null, ValueLength, none, null, Legal, plain}
 use Rattle.framing.specs.ShortValue.{bareSpans}
 use Rattle.framing.proofs.Completeness.{values-complete}
 use Rattle.encoding.specs.Meaning.{StandsAt}

@@ -1,17 +1,16 @@
 -- A pad as it is written: how many bytes its length field has, and that it has the size asked for.
 -- Assumes nothing.
-use Prim.Native.Nat.{ℕ, zero, suc, _+_, _-_, _^_, _≤_, _<_}
+use Prim.Native.Nat.{ℕ, suc, _+_, _-_, _^_, _≤_, _<_}
 use native.Mathlib.Omega.{arith}
 use native.Mathlib.Nat.{pow-le-pow-right, lt-of-lt-of-le}
 use native.Mathlib.Numerals.{add-one}
 use borrow.Author.Tests.{ltb-true, ltb-false, lt-ltb, le-ltb, eqb-false, eq-eqb, ne-eqb}
 use mathlib.Core.Path.{_≡_, refl, _∙_, sym, ap}
 use mathlib.Core.Bool.{Bool, true, false, true≢false}
-use mathlib.Core.List.{List, [], _∷_, _++_}
+use mathlib.Core.List.{List, _∷_, _++_}
 use lib.ListN.{length, replicate, length-append, length-replicate, set}
 use lib.Seq.{sets}
 use lib.Dec.{ltb, eqb}
-use Rattle.numbers.specs.Outcome.{pick}
 use Rattle.numbers.proofs.Outcomes.{by-test, by-case}
 use Rattle.encoding.specs.Fields.{varUIntIn, fewest, varUIntSize}
 use Rattle.encoding.proofs.VarUInts.{var-uint-written, fewest-low, size-least, size-enough}

@@ -4,21 +4,20 @@ use Prim.Native.Nat.{ℕ, suc, _+_, _-_, _/_, _%_, _^_, _≤_, _<_}
 use native.Mathlib.Omega.{arith}
 use borrow.Author.Tests.{ltb-true, ltb-false}
 use mathlib.Core.Path.{_≡_, refl, _∙_, sym, ap, subst}
-use mathlib.Core.List.{List, [], _∷_, _++_}
-use lib.ListN.{length, getD, replicate, length-replicate, length-append}
+use mathlib.Core.List.{List, _∷_, _++_}
+use lib.ListN.{length, getD, replicate, length-replicate}
 use lib.Dec.{ltb}
 use Rattle.numbers.specs.Bytes.{part}
 use Rattle.numbers.specs.Format.{VarBytes, varUIntOf, NumberAt}
 use Rattle.numbers.proofs.Outcomes.{by-case}
-use Rattle.framing.specs.Spans.{Padding}
-use Rattle.framing.specs.Format.{typeAt, codeAt, CodeLength, short, long, NopPadding}
+use Rattle.framing.specs.Format.{typeAt, codeAt, CodeLength, short, long}
 use Rattle.framing.proofs.Completeness.{pads-complete}
 use Rattle.encoding.specs.Fields.{varUIntIn, fewest}
 use Rattle.encoding.specs.Meaning.{StandsAt, WrittenIn}
 use Rattle.encoding.proofs.VarUInts.{var-uint-written, fewest-enough}
 use Rattle.encoding.proofs.Standing.{stands-first, stands-rest, stands-byte, stands-next}
 use Rattle.writing.specs.Things.{padField, padBytes}
-use Rattle.writing.specs.Theorems.{PadBack, PadsBack, Sound}
+use Rattle.writing.specs.Theorems.{PadsBack}
 use Rattle.writing.proofs.Pads.{lengthBy, field-none, field-from, field-some, field-length, pad-some, pad-few, pad-short, pad-long, pad-length}
 
 -- what a pad of this size is made of

@@ -1,6 +1,6 @@
 -- The scalar reading and stepping in give back what was written, wherever it stands: each value's reading, with the places of its framing.
 -- Assumes nothing.
-use Prim.Native.Nat.{ℕ, zero, suc, _+_, _-_, _*_, _/_, _%_, _^_, _≤_, _<_}
+use Prim.Native.Nat.{ℕ, _+_, _-_, _*_, _/_, _%_, _^_, _≤_, _<_}
 use native.Mathlib.Omega.{arith}
 use borrow.Author.Tests.{ltb-true, ltb-false, eqb-true, eqb-false, lt-ltb, le-ltb, eq-eqb, ne-eqb, not-false}
 use mathlib.Core.Path.{_≡_, refl, _∙_, sym, ap, subst}
@@ -8,7 +8,7 @@ use mathlib.Core.Bool.{Bool, true, false, not, true≢false}
 use mathlib.Core.List.{List, [], _∷_}
 use lib.ListN.{length, getD}
 use lib.Dec.{ltb, eqb}
-use Rattle.numbers.specs.Outcome.{Outcome, gives, refuses, pick, refuseIf, andThen}
+use Rattle.numbers.specs.Outcome.{gives, pick}
 use Rattle.numbers.specs.Bytes.{part}
 use Rattle.numbers.specs.Format.{ofDigits, uintOf}
 use Rattle.numbers.proofs.Outcomes.{by-test, by-case, refuse-gives, then-gives}
@@ -21,21 +21,21 @@ use Rattle.bodies.specs.Utf8.{utf8}
 use Rattle.bodies.specs.Uint.{uintIn}
 use Rattle.bodies.specs.Magnitude.{significantFrom}
 use Rattle.bodies.proofs.BigEndian.{uint-inside}
-use Rattle.bodies.proofs.Leading.{Begins, significant-one}
-use Rattle.values.specs.Scalars.{valueIn, isContainer, opened, stepIn, Scalar, readScalar, scalarOf, typedOf, boolOf, positiveOf, negativeOf, floatOf, symbolOf, stringOf}
+use Rattle.bodies.proofs.Leading.{significant-one}
+use Rattle.values.specs.Scalars.{valueIn, isContainer, opened, stepIn, readScalar, scalarOf, typedOf, boolOf, positiveOf, negativeOf, floatOf, symbolOf, stringOf}
 use Rattle.values.specs.Scalars as read
-use Rattle.checking.specs.Reading.{Done, done, readBody, readContent}
+use Rattle.checking.specs.Reading.{done, readBody, readContent}
 use Rattle.checking.proofs.Moving.{utf8-moved}
 use Rattle.encoding.specs.Fields.{bigEndian}
-use Rattle.encoding.specs.Heads.{headCode, headByte, headSize, typedSpans}
+use Rattle.encoding.specs.Heads.{headCode, headSize, typedSpans}
 use Rattle.encoding.specs.Meaning.{StandsAt}
 use Rattle.encoding.proofs.VarUInts.{uint-written}
 use Rattle.encoding.proofs.Heads.{head-type, head-code, typed-length}
-use Rattle.writing.specs.Things.{Thing, int, null, bool, intType, float, symbol, scalar, container, significant, floatBody, symbolBody, nullByte, boolByte, written}
+use Rattle.writing.specs.Things.{Thing, int, null, bool, intType, float, symbol, container, significant, floatBody, symbolBody, nullByte, boolByte, written}
 use Rattle.writing.specs.Answers.{hasBody, judgedInt, judgedScalar, rulesOf}
 use Rattle.writing.specs.Answers as ours
 use Rattle.writing.specs.Theorems.{Sound, Bodied, an-int, a-float, a-symbol, a-scalar, a-container, FramedBack}
-use Rattle.writing.specs.Back.{bodyAt, spanned, GivesBack, ScalarsBack, ContainersBack}
+use Rattle.writing.specs.Back.{bodyAt, spanned, ScalarsBack, ContainersBack}
 use Rattle.writing.specs.Back as back
 use Rattle.writing.proofs.Back.{symbol-few, values-back}
 use Rattle.writing.proofs.OneByteValues.{nulls-back, bools-back}

@@ -1,14 +1,14 @@
 -- What writing answers, one test at a time.
 -- Assumes nothing.
-use Prim.Native.Nat.{ℕ, zero, suc, _+_, _-_, _≤_, _<_}
+use Prim.Native.Nat.{ℕ, zero, suc, _-_, _≤_, _<_}
 use native.Mathlib.Omega.{arith}
 use borrow.Author.Tests.{lt-ltb, le-ltb, eq-eqb, ne-eqb}
-use mathlib.Core.Path.{_≡_, refl, _∙_, sym, ap}
-use mathlib.Core.Bool.{Bool, true, false, not}
+use mathlib.Core.Path.{_≡_, refl, _∙_, sym}
+use mathlib.Core.Bool.{true, false}
 use mathlib.Core.List.{List, [], _∷_}
 use lib.ListN.{length, getD, take, drop, length-drop}
-use lib.Seq.{take-all, slice}
-use lib.Dec.{ltb, eqb}
+use lib.Seq.{take-all}
+use lib.Dec.{eqb}
 use Rattle.numbers.specs.Outcome.{Outcome, gives, refuses, pick, refuseIf, andThen}
 use Rattle.numbers.specs.Descriptor.{descriptorOf}
 use Rattle.numbers.specs.declared.type_descriptor.Kind.{Kind}
@@ -22,7 +22,7 @@ use Rattle.bodies.specs.Magnitude.{significantFrom}
 use Rattle.bodies.proofs.Leading.{Begins, significant-begins}
 use Rattle.stepping.specs.declared.cursor.Rules.{Rules}
 use Rattle.walking.specs.Walk.{limitsOut}
-use Rattle.checking.specs.Reading.{Done, done, readIds}
+use Rattle.checking.specs.Reading.{done, readIds}
 use Rattle.checking.specs.Body.{bodyCheck, limitedBody}
 use Rattle.writing.specs.Things.{Thing, significant, written}
 use Rattle.writing.specs.Answers.{outside, tooLong, judged, fitted, writeOf, limitedWrite, lentValue, thenValue, judgedParts, judgedWrapper}

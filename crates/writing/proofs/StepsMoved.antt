@@ -3,26 +3,24 @@
 use Prim.Native.Nat.{ℕ, zero, suc, _+_, _-_, _≤_, _<_}
 use native.Mathlib.Omega.{arith}
 use borrow.Author.Tests.{ltb-true, ltb-false, lt-ltb, le-ltb}
-use mathlib.Core.Path.{_≡_, refl, _∙_, sym, ap, subst}
+use mathlib.Core.Path.{_≡_, refl, ap}
 use mathlib.Core.Bool.{Bool, true, false, not}
-use mathlib.Core.List.{List, [], _∷_}
+use mathlib.Core.List.{List}
 use lib.ListN.{length, getD}
 use lib.Dec.{ltb, eqb}
-use Rattle.numbers.specs.Outcome.{Outcome, gives, refuses, refuseIf, pick, andThen, outsideOf}
-use Rattle.numbers.specs.Answers.{Unsigned, varUInt}
+use Rattle.numbers.specs.Outcome.{Outcome, gives, pick}
 use Rattle.numbers.proofs.Outcomes.{by-case, inside, each-of}
 use Rattle.numbers.proofs.Meaning.{Bounded, var-uint-bounded}
-use Rattle.numbers.proofs.Moving.{Moved, given-on, refused-on, moved-refuse, moved-pick, moved-then, same-moved, movedUnsigned, var-uint-moved}
-use Rattle.framing.specs.Spans.{Spans, Padding}
+use Rattle.numbers.proofs.Moving.{Moved, given-on, refused-on, moved-refuse, moved-pick, moved-then, same-moved, var-uint-moved}
 use Rattle.framing.specs.Limits.{outOfRange}
-use Rattle.framing.specs.Answers.{Frame, padding, valued, readFrame}
+use Rattle.framing.specs.Answers.{Frame, padding, valued}
 use Rattle.stepping.specs.Items.{Item, finish, marker, value, field}
 use Rattle.stepping.specs.Answers.{Tile, skip, hand, versionPasses, markerAt, asTile, framedAt, asField, namedAt, fieldAt, tileAt, Found, stop, onTile, skipPads, found}
 use Rattle.stepping.specs.Runs.{cursor}
 use Rattle.stepping.specs.declared.cursor.Rules.{Rules}
 use Rattle.stepping.specs.declared.cursor.Rules.the-variants.{Stream, Sequence, Fields}
 use Rattle.stepping.proofs.Places.{pad-ends}
-use Rattle.writing.proofs.FramesMoved.{moved-is, movedSpans, movedFrame, frame-moved}
+use Rattle.writing.proofs.FramesMoved.{movedSpans, movedFrame, frame-moved}
 
 abbrev pub movedItem : ℕ → Item → Item
 movedItem n (finish p) = finish (n + p)

@@ -1,36 +1,33 @@
 -- A wrapper that is written is read as that wrapper, wherever it stands: its annotations and its value are there, and the value is framed as by itself.
 -- Assumes nothing.
-use Prim.Native.Nat.{ℕ, _+_, _-_, _^_, _≤_, _<_}
+use Prim.Native.Nat.{ℕ, _+_, _-_, _≤_}
 use native.Mathlib.Omega.{arith}
 use borrow.Author.Tests.{ltb-false, eqb-false, eqb-true, not-false}
 use mathlib.Core.Path.{_≡_, refl, _∙_, sym, ap, subst}
-use mathlib.Core.Bool.{Bool, true, false, not}
+use mathlib.Core.Bool.{not}
 use mathlib.Core.List.{List, _++_}
-use lib.ListN.{length, getD}
+use lib.ListN.{length}
 use lib.Dec.{ltb, eqb}
-use Rattle.numbers.specs.Outcome.{Outcome, gives, refuses, refuseIf, andThen}
-use Rattle.numbers.specs.Bytes.{part}
+use Rattle.numbers.specs.Outcome.{Outcome, gives, andThen}
 use Rattle.numbers.specs.Format.{NumberAt}
-use Rattle.numbers.specs.Descriptor.{descriptorOf}
 use Rattle.numbers.specs.declared.type_descriptor.TypeDescriptor.{TypeDescriptor}
 use Rattle.numbers.proofs.Outcomes.{refuse-gives, then-gives, Each, each-refuse, each-then, each-of}
 use Rattle.numbers.proofs.Moving.{Moved, given-on, refused-on}
 use Rattle.framing.specs.Spans.{Spans}
-use Rattle.framing.specs.Answers.{peekedDescriptor, innerValue, isWrapper, isPad, readValue}
+use Rattle.framing.specs.Answers.{peekedDescriptor, innerValue, isWrapper, isPad}
 use Rattle.framing.specs.Format.{CodeLength, short, long, ValueLength, none, null, coded, ordered, TypedValue, annotated}
-use Rattle.framing.proofs.Bounds.{PeekedAt, peeked-each, Ordered, inner-peeked-each}
+use Rattle.framing.proofs.Bounds.{peeked-each, Ordered, inner-peeked-each}
 use Rattle.framing.proofs.Soundness.{here, plain-sound}
 use Rattle.framing.proofs.Completeness.{values-complete}
-use Rattle.checking.specs.Reading.{Done, done, readIds}
+use Rattle.checking.specs.Reading.{done}
 use Rattle.encoding.specs.Fields.{varUIntSize, varUIntBytes}
 use Rattle.encoding.specs.Heads.{headBytes, headSize, typedBytes, wrappedBytes, wrapperBytes, wrapperSize, wrapperSpans}
 use Rattle.encoding.specs.Meaning.{StandsAt, Wrapper}
 use Rattle.encoding.proofs.VarUInts.{bytes-size}
 use Rattle.encoding.proofs.Heads.{head-length, wrapped-length, wrapper-length, wrapper-back}
 use Rattle.encoding.proofs.Standing.{stands-at, stands-first, stands-rest}
-use Rattle.writing.specs.Answers.{lentValue, thenValue, judgedParts, judgedWrapper}
-use Rattle.writing.specs.Theorems.{Sound}
-use Rattle.writing.specs.Back.{WrapperBack, WrappersBack}
+use Rattle.writing.specs.Answers.{lentValue, judgedParts, judgedWrapper}
+use Rattle.writing.specs.Back.{WrappersBack}
 use Rattle.writing.proofs.FramesMoved.{movedSpans, inner-moved}
 use Rattle.writing.proofs.Lengths.{not-past}
 

@@ -7,16 +7,16 @@ use mathlib.Core.Bool.{Bool, false}
 use mathlib.Core.List.{List}
 use lib.ListN.{length}
 use lib.Dec.{eqb}
-use Rattle.numbers.specs.Outcome.{Outcome, gives, pick}
+use Rattle.numbers.specs.Outcome.{gives, pick}
 use Rattle.numbers.specs.Bytes.{part}
 use Rattle.framing.specs.Limits.{outOfRange}
 use Rattle.framing.specs.Spans.{Spans}
 use Rattle.framing.specs.Answers.{readValue}
-use Rattle.values.specs.Scalars.{Scalar, Opened, readScalar, stepIn}
+use Rattle.values.specs.Scalars.{Scalar, readScalar, stepIn}
 use Rattle.values.specs.Scalars as read
 use Rattle.encoding.specs.Heads.{headSize, wrapperSize}
 use Rattle.encoding.specs.Meaning.{StandsAt}
-use Rattle.writing.specs.Things.{Thing, null, bool, int, float, symbol, scalar, pad, container, wrapper, significant, written}
+use Rattle.writing.specs.Things.{Thing, null, bool, int, float, symbol, scalar, container, wrapper, significant, written}
 use Rattle.writing.specs.Answers.{rulesOf, lentValue}
 use Rattle.writing.specs.Theorems.{Sound}
 

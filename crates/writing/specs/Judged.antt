@@ -5,16 +5,16 @@
 use Prim.Native.Nat.{ℕ, _-_}
 use mathlib.Core.Path.{_≡_}
 use mathlib.Core.Bool.{false}
-use mathlib.Core.List.{List, _∷_}
+use mathlib.Core.List.{List}
 use lib.ListN.{length}
 use Rattle.numbers.specs.Outcome.{Outcome, gives, refuses}
 use Rattle.walking.specs.Walk.{limitsOut}
 use Rattle.checking.specs.Reading.{Done, done}
 use Rattle.checking.specs.Check.{wholeCheck}
 use Rattle.encoding.specs.Heads.{headSize, typedBytes}
-use Rattle.writing.specs.Things.{Thing, scalar, container, written}
+use Rattle.writing.specs.Things.{container, written}
 use Rattle.writing.specs.Answers.{outside, tooLong, judged}
-use Rattle.writing.specs.Theorems.{Bodied, Sound}
+use Rattle.writing.specs.Theorems.{Sound}
 
 -- a check's answer in the lent bytes, before which the map has n bytes: a position before them is that of a descriptor still to be written, and counts as 0
 abbrev pub countedFrom : ℕ → Outcome (List ℕ) → Outcome Done

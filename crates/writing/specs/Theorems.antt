@@ -1,22 +1,20 @@
 -- What holds of what is written. The proofs: `pads-back` of proofs/PadsBack.antt, `values-back`, `scalars-back` and `containers-back` of proofs/Back.antt,
 -- `wrappers-back` of proofs/WrappersBack.antt.
 -- Assumes nothing.
-use Prim.Native.Nat.{ℕ, _+_, _-_, _^_, _≤_, _<_}
+use Prim.Native.Nat.{ℕ, _+_, _-_, _≤_}
 use mathlib.Core.Path.{_≡_}
-use mathlib.Core.Bool.{Bool, true, false}
+use mathlib.Core.Bool.{Bool, false}
 use mathlib.Core.List.{List}
 use lib.ListN.{length, replicate}
-use lib.Dec.{eqb}
-use Rattle.numbers.specs.Outcome.{Outcome, gives, refuses, pick}
+use Rattle.numbers.specs.Outcome.{gives}
 use Rattle.numbers.specs.Bytes.{part}
-use Rattle.framing.specs.Spans.{Spans, Padding}
 use Rattle.framing.specs.Answers.{padding, readFrame, readValue}
 use Rattle.framing.specs.ShortValue.{bareSpans}
-use Rattle.checking.specs.Reading.{Done, done}
+use Rattle.checking.specs.Reading.{done}
 use Rattle.encoding.specs.Heads.{headSize, typedSpans}
 use Rattle.encoding.specs.Meaning.{StandsAt}
-use Rattle.writing.specs.Things.{Thing, null, bool, int, float, symbol, scalar, pad, container, wrapper, intType, significant, floatBody, symbolBody, nullByte, boolByte, padField, padBytes, written}
-use Rattle.writing.specs.Answers.{outside, tooLong, judged, rulesOf}
+use Rattle.writing.specs.Things.{Thing, null, bool, int, float, symbol, scalar, pad, container, intType, significant, floatBody, symbolBody, nullByte, boolByte, padField, padBytes, written}
+use Rattle.writing.specs.Answers.{outside, tooLong, judged}
 
 -- what is accepted: no argument is outside, no length past nine bytes, and the reader refuses nothing of it
 pub record Sound (limit deepest : ℕ) (thing : Thing) : Type 0 where

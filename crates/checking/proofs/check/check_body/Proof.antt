@@ -8,7 +8,7 @@ use mathlib.Core.List.{List}
 use lib.ListN.{length}
 use Rattle.numbers.specs.Outcome.{Outcome, andThen}
 use Rattle.checking.specs.Counts.{none}
-use Rattle.checking.specs.Reading.{Done, asDone}
+use Rattle.checking.specs.Reading.{asDone}
 use Rattle.checking.specs.Check.{partCheck}
 use Rattle.checking.specs.Body.{bodyCheck, limitedBody}
 use Rattle.checking.specs.Read.{doneRead, verdictRead}

@@ -1,17 +1,14 @@
 -- `ion_map_write_int` meets its contract: 51, 50 for a flag that is none, and else what is written and its record.
 -- Assumes nothing.
 use borrow.Author.Needs.{needs}
-use Prim.Native.Nat.{ℕ}
 use native.Mathlib.Omega.{arith}
-use mathlib.Core.Path.{refl, _∙_, sym, ap}
-use mathlib.Core.List.{List}
+use mathlib.Core.Path.{_∙_, sym, ap}
 use lib.ListN.{length}
 use lib.Dec.{eqb}
-use Rattle.writing.specs.Things.{null, bool, int, float, symbol, scalar, pad, container, wrapper, written}
-use Rattle.writing.specs.Answers.{writeOf, limitedWrite, bufferAfter}
-use Rattle.writing.specs.Read.{writtenRead}
-use Rattle.writes.specs.Writes.{writeWords, flagged}
-use Rattle.writes.proofs.Writing.{write-returned, no-record, wrote, flag-out, flag-in}
+use Rattle.writing.specs.Things.{int, written}
+use Rattle.writing.specs.Answers.{writeOf, bufferAfter}
+use Rattle.writes.specs.Writes.{flagged}
+use Rattle.writes.proofs.Writing.{no-record, wrote, flag-out, flag-in}
 use Rattle.writes.proofs.exports.ion_map_write_int.Statement.{statement}
 use Rattle.writes.proofs.exports.ion_map_write_int.Tie as tie
 

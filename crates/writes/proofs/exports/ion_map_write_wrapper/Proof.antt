@@ -1,17 +1,11 @@
 -- `ion_map_write_wrapper` meets its contract: 51, and else what is written and its record.
 -- Assumes nothing.
 use borrow.Author.Needs.{needs}
-use Prim.Native.Nat.{ℕ}
 use native.Mathlib.Omega.{arith}
-use mathlib.Core.Path.{refl, _∙_, sym, ap}
-use mathlib.Core.List.{List}
 use lib.ListN.{length}
-use lib.Dec.{eqb}
-use Rattle.writing.specs.Things.{null, bool, int, float, symbol, scalar, pad, container, wrapper, written}
-use Rattle.writing.specs.Answers.{writeOf, limitedWrite}
-use Rattle.writing.specs.Read.{writtenRead}
-use Rattle.writes.specs.Writes.{writeWords, flagged}
-use Rattle.writes.proofs.Writing.{write-returned, no-record, wrote, flag-out, flag-in}
+use Rattle.writing.specs.Things.{wrapper, written}
+use Rattle.writing.specs.Answers.{limitedWrite}
+use Rattle.writes.proofs.Writing.{no-record, wrote}
 use Rattle.writes.proofs.exports.ion_map_write_wrapper.Statement.{statement}
 use Rattle.writes.proofs.exports.ion_map_write_wrapper.Tie as tie
 

@@ -1,7 +1,7 @@
 -- `written_words` meets its contract: by the answer's two cases.
 -- Assumes nothing.
 use borrow.Author.Needs.{needs}
-use mathlib.Core.Path.{refl, _∙_, sym, ap}
+use mathlib.Core.Path.{_∙_, sym, ap}
 use Rattle.writing.specs.declared.written.Written.{Written}
 use Rattle.writing.specs.Read.{writtenRead}
 use Rattle.writes.specs.Writes.{writeWords}

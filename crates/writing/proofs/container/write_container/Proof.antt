@@ -1,17 +1,16 @@
 -- `write_container` meets its contract: 68, 50, 71, what checking the body refuses, 70, then the container is put.
 -- Assumes nothing.
 use borrow.Author.Needs.{needs}
-use Prim.Native.Nat.{ℕ, _+_, _-_, _^_, _≤_, _<_}
+use Prim.Native.Nat.{ℕ, _-_, _≤_, _<_}
 use native.Mathlib.Omega.{arith}
-use borrow.Author.Tests.{lt-ltb, le-ltb, eq-eqb, ne-eqb, not-true, not-false, ltb-true, ltb-false}
+use borrow.Author.Tests.{not-false, ltb-true, ltb-false}
 use mathlib.Core.Path.{_≡_, refl, _∙_, sym, ap}
 use mathlib.Core.Bool.{Bool, true, false, not, true≢false}
 use mathlib.Core.List.{List}
-use lib.ListN.{length, set, replicate, length-set}
-use lib.Seq.{sets, length-sets}
-use lib.Dec.{ltb, eqb}
-use Rattle.numbers.specs.Outcome.{Outcome, gives, refuses, pick, andThen}
-use Rattle.numbers.proofs.Outcomes.{by-test, then-by}
+use lib.ListN.{length}
+use lib.Dec.{ltb}
+use Rattle.numbers.specs.Outcome.{Outcome}
+use Rattle.numbers.proofs.Outcomes.{by-test}
 use Rattle.walking.proofs.Depths.{in-limit}
 use Rattle.walking.specs.Walk.{limitsOut}
 use Rattle.framing.specs.Limits.{outOfRange}
@@ -21,7 +20,7 @@ use Rattle.checking.specs.Read.{doneRead}
 use Rattle.checking.specs.Body.{limitedBody}
 use Rattle.encoding.specs.Heads.{typedBytes}
 use Rattle.writing.specs.Things.{container}
-use Rattle.writing.specs.Answers.{isContainer, rulesOf, pastNine, judgedContainer, fitted, bufferAfter}
+use Rattle.writing.specs.Answers.{isContainer, rulesOf, judgedContainer, fitted, bufferAfter}
 use Rattle.writing.specs.Read.{writtenRead}
 use Rattle.writing.proofs.Lengths.{kept}
 use Rattle.writing.proofs.Stages.{body-limited, outside-is, unlimited, in-limits, long-is, judged-is, fitted-is}

@@ -1,10 +1,10 @@
 -- `pad_field` meets its contract: the loop looks for the fewest bytes, from one on. With fewer of them a VarUInt does not tell the length.
 -- Assumes nothing.
 use borrow.Author.Needs.{needs}
-use Prim.Native.Nat.{ℕ, _-_, _≤_}
+use Prim.Native.Nat.{_-_, _≤_}
 use native.Mathlib.Omega.{arith}
-use mathlib.Core.Path.{_≡_, _∙_, sym, ap}
-use Rattle.encoding.specs.Fields.{fewest, varUIntSize}
+use mathlib.Core.Path.{_≡_, _∙_, sym}
+use Rattle.encoding.specs.Fields.{fewest}
 use Rattle.writing.specs.Things.{padField}
 use Rattle.writing.proofs.Pads.{lengthBy, field-none, field-from, field-hit, field-on, field-end}
 use Rattle.writing.proofs.pad.pad_field.Statement.{statement}

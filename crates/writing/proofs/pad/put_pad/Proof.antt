@@ -1,19 +1,13 @@
 -- `put_pad` meets its contract: descriptor and length field, then zeros, each stored behind the other.
 -- Assumes nothing.
 use borrow.Author.Needs.{needs}
-use Prim.Native.Nat.{ℕ, _+_, _-_, _^_, _≤_, _<_}
+use Prim.Native.Nat.{ℕ, _+_, _-_}
 use native.Mathlib.Omega.{arith}
-use borrow.Author.Tests.{lt-ltb, le-ltb, eq-eqb, ne-eqb, not-true, not-false, ltb-true, ltb-false}
-use mathlib.Core.Path.{_≡_, refl, _∙_, sym, ap}
-use mathlib.Core.Bool.{Bool, true, false, not, true≢false}
+use mathlib.Core.Path.{_≡_, _∙_, ap}
 use mathlib.Core.List.{List}
-use lib.ListN.{length, set, replicate, length-set}
+use lib.ListN.{length, replicate, length-set}
 use lib.Seq.{sets, length-sets}
-use lib.Dec.{ltb, eqb}
-use Rattle.numbers.specs.Outcome.{Outcome, gives, refuses, pick, andThen}
-use Rattle.numbers.proofs.Outcomes.{by-test, then-by}
 use Rattle.encoding.specs.Fields.{varUIntIn}
-use Rattle.writing.specs.Things.{padField}
 use Rattle.writing.proofs.Pads.{field-some, pad-some, pad-few, short-stored, long-stored}
 use Rattle.writing.proofs.pad.put_pad.Statement.{statement}
 use Rattle.writing.proofs.pad.put_pad.Tie as tie

@@ -1,8 +1,8 @@
 -- `put_zeros` meets its contract: with what is left stored from here, the buffer is what it is to be.
 -- Assumes nothing.
-use Prim.Native.Nat.{ℕ, _-_, _≤_}
+use Prim.Native.Nat.{_-_, _≤_}
 use native.Mathlib.Omega.{arith}
-use mathlib.Core.Path.{_≡_, refl, _∙_, sym, ap}
+use mathlib.Core.Path.{_≡_, refl, _∙_}
 use lib.ListN.{length, replicate, length-set}
 use lib.Seq.{sets}
 use Rattle.writing.proofs.Pads.{zeros-on, zeros-end}

@@ -1,18 +1,12 @@
 -- `write_pad` meets its contract: 71 for a size that is none, 70, then the pad is put.
 -- Assumes nothing.
 use borrow.Author.Needs.{needs}
-use Prim.Native.Nat.{ℕ, _+_, _-_, _^_, _≤_, _<_}
+use Prim.Native.Nat.{_-_, _≤_}
 use native.Mathlib.Omega.{arith}
-use borrow.Author.Tests.{lt-ltb, le-ltb, eq-eqb, ne-eqb, not-true, not-false, ltb-true, ltb-false}
-use mathlib.Core.Path.{_≡_, refl, _∙_, sym, ap}
-use mathlib.Core.Bool.{Bool, true, false, not, true≢false}
-use mathlib.Core.List.{List}
-use lib.ListN.{length, set, replicate, length-set}
-use lib.Seq.{sets, length-sets}
-use lib.Dec.{ltb, eqb}
-use Rattle.numbers.specs.Outcome.{Outcome, gives, refuses, pick, andThen}
-use Rattle.numbers.proofs.Outcomes.{by-test, then-by}
-use Rattle.writing.specs.Things.{pad, padField, padBytes}
+use mathlib.Core.Path.{_≡_, refl, _∙_, sym}
+use mathlib.Core.Bool.{false}
+use lib.ListN.{length}
+use Rattle.writing.specs.Things.{pad, padBytes}
 use Rattle.writing.specs.Answers.{noPad}
 use Rattle.writing.proofs.Lengths.{too-short, fits, kept, stored}
 use Rattle.writing.proofs.Pads.{pad-none, pad-past, pad-told, pad-length}

@@ -16,7 +16,7 @@ use Rattle.framing.specs.Answers.{shortTimestamp}
 use Rattle.framing.specs.Spans.{Spans}
 use Rattle.framing.specs.ShortValue.{bareSpans}
 use Rattle.values.specs.Scalars.{Scalar, scalarOf, scalarIn}
-use Rattle.checking.specs.Reading.{Done, readBody, readContent}
+use Rattle.checking.specs.Reading.{readBody, readContent}
 use Rattle.writing.specs.Answers.{judgedScalar}
 use Rattle.writing.proofs.scalar.judge_scalar.Statement.{statement}
 use Rattle.writing.proofs.scalar.judge_scalar.Tie as tie

@@ -1,8 +1,6 @@
 -- `null_byte` meets its contract: a computed byte.
 -- Assumes nothing.
 use borrow.Author.Needs.{needs}
-use native.Mathlib.Omega.{arith}
-use mathlib.Core.Path.{_∙_}
 use borrow.Author.Tests.{eq-eqb, ne-eqb}
 use Rattle.writing.specs.Things.{nullByte}
 use Rattle.writing.proofs.scalar.null_byte.Statement.{statement}

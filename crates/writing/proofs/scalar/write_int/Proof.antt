@@ -1,24 +1,21 @@
 -- `write_int` meets its contract: 71, 34, and the magnitude without leading zero bytes.
 -- Assumes nothing.
 use borrow.Author.Needs.{needs}
-use Prim.Native.Nat.{ℕ, _-_, _≤_, _<_}
+use Prim.Native.Nat.{ℕ, _-_, _≤_}
 use native.Mathlib.Omega.{arith}
-use borrow.Author.Tests.{lt-ltb, le-ltb, eq-eqb, ne-eqb}
+use borrow.Author.Tests.{eq-eqb, ne-eqb}
 use mathlib.Core.Path.{_≡_, refl, _∙_, sym, ap}
 use mathlib.Core.Bool.{Bool, true, false}
-use mathlib.Core.List.{List, []}
-use lib.ListN.{length, take, drop, length-take, length-drop}
-use lib.Dec.{eqb}
-use Rattle.numbers.specs.Outcome.{Outcome, gives, pick, refuses}
+use mathlib.Core.List.{List}
+use lib.ListN.{length}
+use Rattle.numbers.specs.Outcome.{gives, refuses}
 use Rattle.checking.specs.Reading.{done}
-use Rattle.encoding.specs.Fields.{bigEndian}
 use Rattle.encoding.specs.Heads.{typedBytes}
-use Rattle.encoding.proofs.VarUInts.{uint-written}
 use Rattle.writing.specs.Answers.{pastNine, fitted, bufferAfter}
 use Rattle.writing.specs.Read.{writtenRead}
-use Rattle.writing.proofs.Lengths.{told, kept}
+use Rattle.writing.proofs.Lengths.{kept}
 use Rattle.writing.specs.Things.{int, intType, significant}
-use Rattle.writing.specs.Answers.{judgedInt, tooLong}
+use Rattle.writing.specs.Answers.{judgedInt}
 use Rattle.writing.proofs.Stages.{significant-high, significant-part, long-is, judged-is, fitted-is}
 use Rattle.writing.proofs.scalar.write_int.Statement.{statement}
 use Rattle.writing.proofs.scalar.write_int.Tie as tie

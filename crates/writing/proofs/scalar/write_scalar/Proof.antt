@@ -1,22 +1,19 @@
 -- `write_scalar` meets its contract: 50, 71, what reading the body refuses, 70, then the value is put.
 -- Assumes nothing.
 use borrow.Author.Needs.{needs}
-use Prim.Native.Nat.{ℕ, _+_, _-_, _^_, _≤_, _<_}
+use Prim.Native.Nat.{ℕ, _-_, _<_}
 use native.Mathlib.Omega.{arith}
-use borrow.Author.Tests.{lt-ltb, le-ltb, eq-eqb, ne-eqb, not-true, not-false, ltb-true, ltb-false}
+use borrow.Author.Tests.{not-false, ltb-true}
 use mathlib.Core.Path.{_≡_, refl, _∙_, sym, ap}
 use mathlib.Core.Bool.{Bool, true, false, not, true≢false}
-use mathlib.Core.List.{List}
-use lib.ListN.{length, set, replicate, length-set}
-use lib.Seq.{sets, length-sets}
+use lib.ListN.{length}
 use lib.Dec.{ltb, eqb}
-use Rattle.numbers.specs.Outcome.{Outcome, gives, refuses, pick, andThen}
-use Rattle.numbers.proofs.Outcomes.{by-test, then-by}
-use Rattle.checking.specs.Reading.{Done, done}
+use Rattle.numbers.proofs.Outcomes.{by-test}
+use Rattle.checking.specs.Reading.{done}
 use Rattle.checking.specs.Read.{doneRead}
 use Rattle.encoding.specs.Heads.{typedBytes}
 use Rattle.writing.specs.Things.{scalar}
-use Rattle.writing.specs.Answers.{hasBody, pastNine, judgedScalar, fitted, bufferAfter}
+use Rattle.writing.specs.Answers.{hasBody, judgedScalar, fitted, bufferAfter}
 use Rattle.writing.specs.Read.{writtenRead}
 use Rattle.writing.proofs.Lengths.{kept}
 use Rattle.writing.proofs.Stages.{outside-is, long-is, judged-is, fitted-is}

@@ -1,22 +1,18 @@
 -- `write_symbol` meets its contract: the eight bytes without leading zero bytes.
 -- Assumes nothing.
 use borrow.Author.Needs.{needs}
-use Prim.Native.Nat.{ℕ, _-_, _≤_, _<_}
+use Prim.Native.Nat.{ℕ, _-_, _≤_}
 use native.Mathlib.Omega.{arith}
-use borrow.Author.Tests.{lt-ltb, le-ltb, eq-eqb, ne-eqb}
 use mathlib.Core.Path.{_≡_, refl, _∙_, sym, ap}
-use mathlib.Core.Bool.{Bool, true, false}
-use mathlib.Core.List.{List, []}
-use lib.ListN.{length, take, drop, length-take, length-drop}
-use lib.Dec.{eqb}
-use Rattle.numbers.specs.Outcome.{Outcome, gives, pick, refuses}
+use mathlib.Core.List.{List}
+use lib.ListN.{length, take, drop, length-take}
 use Rattle.checking.specs.Reading.{done}
 use Rattle.encoding.specs.Fields.{bigEndian}
 use Rattle.encoding.specs.Heads.{typedBytes}
 use Rattle.encoding.proofs.VarUInts.{uint-written}
-use Rattle.writing.specs.Answers.{pastNine, fitted, bufferAfter}
+use Rattle.writing.specs.Answers.{fitted, bufferAfter}
 use Rattle.writing.specs.Read.{writtenRead}
-use Rattle.writing.proofs.Lengths.{told, kept}
+use Rattle.writing.proofs.Lengths.{told}
 use Rattle.writing.specs.Things.{symbol, significant, symbolBody}
 use Rattle.writing.proofs.Stages.{significant-high, significant-part, fitted-is}
 use Rattle.bodies.specs.Magnitude.{significantFrom}

@@ -1,17 +1,11 @@
 -- `judge_parts` meets its contract: 29, the annotation IDs, then the value.
 -- Assumes nothing.
 use borrow.Author.Needs.{needs}
-use Prim.Native.Nat.{ℕ, _+_, _-_, _^_, _≤_, _<_}
-use native.Mathlib.Omega.{arith}
-use borrow.Author.Tests.{lt-ltb, le-ltb, eq-eqb, ne-eqb, not-true, not-false, ltb-true, ltb-false}
-use mathlib.Core.Path.{_≡_, refl, _∙_, sym, ap}
-use mathlib.Core.Bool.{Bool, true, false, not, true≢false}
-use mathlib.Core.List.{List}
-use lib.ListN.{length, set, replicate, length-set}
-use lib.Seq.{sets, length-sets}
-use lib.Dec.{ltb, eqb}
-use Rattle.numbers.specs.Outcome.{Outcome, gives, refuses, pick, andThen}
-use Rattle.numbers.proofs.Outcomes.{by-test, then-by}
+use Prim.Native.Nat.{_-_}
+use mathlib.Core.Path.{_≡_, _∙_, sym, ap}
+use lib.ListN.{length}
+use Rattle.numbers.specs.Outcome.{Outcome, gives, andThen}
+use Rattle.numbers.proofs.Outcomes.{then-by}
 use Rattle.stepping.specs.declared.cursor.Rules.the-variants.{Sequence}
 use Rattle.checking.specs.Reading.{Done, done, readIds}
 use Rattle.checking.specs.Read.{doneRead}

@@ -1,17 +1,10 @@
 -- `judge_wrapper` meets its contract: 23, 25, 26, the value where it stands, then its parts.
 -- Assumes nothing.
 use borrow.Author.Needs.{needs}
-use Prim.Native.Nat.{ℕ, _+_, _-_, _^_, _≤_, _<_}
+use Prim.Native.Nat.{_-_}
 use native.Mathlib.Omega.{arith}
-use borrow.Author.Tests.{lt-ltb, le-ltb, eq-eqb, ne-eqb, not-true, not-false, ltb-true, ltb-false}
-use mathlib.Core.Path.{_≡_, refl, _∙_, sym, ap}
-use mathlib.Core.Bool.{Bool, true, false, not, true≢false}
-use mathlib.Core.List.{List}
-use lib.ListN.{length, set, replicate, length-set}
-use lib.Seq.{sets, length-sets}
-use lib.Dec.{ltb, eqb}
-use Rattle.numbers.specs.Outcome.{Outcome, gives, refuses, pick, andThen}
-use Rattle.numbers.proofs.Outcomes.{by-test, then-by}
+use mathlib.Core.Path.{refl, _∙_}
+use Rattle.numbers.proofs.Outcomes.{then-by}
 use Rattle.framing.specs.Read.{framedRead, spansOf}
 use Rattle.writing.specs.Answers.{judgedParts}
 use Rattle.writing.proofs.Stages.{none-is, empty-is, many-is, within-is}

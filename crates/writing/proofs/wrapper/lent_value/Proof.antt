@@ -1,17 +1,8 @@
 -- `lent_value` meets its contract: 27 and 28 by the first byte's kind, else it is the value's reading.
 -- Assumes nothing.
 use borrow.Author.Needs.{needs}
-use Prim.Native.Nat.{ℕ, _+_, _-_, _^_, _≤_, _<_}
-use native.Mathlib.Omega.{arith}
-use borrow.Author.Tests.{lt-ltb, le-ltb, eq-eqb, ne-eqb, not-true, not-false, ltb-true, ltb-false}
-use mathlib.Core.Path.{_≡_, refl, _∙_, sym, ap}
-use mathlib.Core.Bool.{Bool, true, false, not, true≢false}
-use mathlib.Core.List.{List}
-use lib.ListN.{length, set, replicate, length-set}
-use lib.Seq.{sets, length-sets}
-use lib.Dec.{ltb, eqb}
-use Rattle.numbers.specs.Outcome.{Outcome, gives, refuses, pick, andThen}
-use Rattle.numbers.proofs.Outcomes.{by-test, then-by}
+use Prim.Native.Nat.{_-_}
+use mathlib.Core.Path.{_∙_, ap}
 use Rattle.numbers.specs.declared.type_descriptor.TypeDescriptor.{TypeDescriptor}
 use Rattle.writing.specs.Private.Inner.{innerFault}
 use Rattle.writing.proofs.Stages.{lent-fault, lent-value}

@@ -3,17 +3,12 @@
 use borrow.Author.Needs.{needs}
 use Prim.Native.Nat.{ℕ, _+_, _-_, _^_, _≤_, _<_}
 use native.Mathlib.Omega.{arith}
-use borrow.Author.Tests.{lt-ltb, le-ltb, eq-eqb, ne-eqb, not-true, not-false, ltb-true, ltb-false}
-use mathlib.Core.Path.{_≡_, refl, _∙_, sym, ap}
-use mathlib.Core.Bool.{Bool, true, false, not, true≢false}
+use mathlib.Core.Path.{_≡_, _∙_, sym, ap}
 use mathlib.Core.List.{List}
-use lib.ListN.{length, set, replicate, length-set}
-use lib.Seq.{sets, length-sets}
-use lib.Dec.{ltb, eqb}
-use Rattle.numbers.specs.Outcome.{Outcome, gives, refuses, pick, andThen}
-use Rattle.numbers.proofs.Outcomes.{by-test, then-by}
+use lib.ListN.{length}
+use lib.Seq.{sets}
 use Rattle.encoding.specs.Fields.{varUIntSize, varUIntBytes}
-use Rattle.encoding.specs.Heads.{headBytes, headSize, wrappedBytes, wrapperBytes}
+use Rattle.encoding.specs.Heads.{headSize, wrappedBytes, wrapperBytes}
 use Rattle.encoding.proofs.Heads.{head-few, wrapped-length, wrapper-length}
 use Rattle.writing.proofs.Lengths.{not-past, too-short, fits, kept, wrapper-stored}
 use Rattle.writing.proofs.wrapper.put_wrapper.Statement.{statement}

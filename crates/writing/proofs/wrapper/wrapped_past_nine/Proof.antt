@@ -1,19 +1,11 @@
 -- `wrapped_past_nine` meets its contract: where the sum itself is past, and else by the sum.
 -- Assumes nothing.
 use borrow.Author.Needs.{needs}
-use Prim.Native.Nat.{ℕ, _+_, _-_, _^_, _≤_, _<_}
+use Prim.Native.Nat.{ℕ, _+_, _-_}
 use native.Mathlib.Omega.{arith}
-use borrow.Author.Tests.{lt-ltb, le-ltb, eq-eqb, ne-eqb, not-true, not-false, ltb-true, ltb-false}
-use mathlib.Core.Path.{_≡_, refl, _∙_, sym, ap}
-use mathlib.Core.Bool.{Bool, true, false, not, true≢false}
-use mathlib.Core.List.{List}
-use lib.ListN.{length, set, replicate, length-set}
-use lib.Seq.{sets, length-sets}
-use lib.Dec.{ltb, eqb}
-use Rattle.numbers.specs.Outcome.{Outcome, gives, refuses, pick, andThen}
-use Rattle.numbers.proofs.Outcomes.{by-test, then-by}
+use mathlib.Core.Path.{_∙_, sym, ap}
 use Rattle.encoding.specs.Fields.{varUIntSize}
-use Rattle.encoding.proofs.VarUInts.{size-low, size-high}
+use Rattle.encoding.proofs.VarUInts.{size-high}
 use Rattle.writing.specs.Answers.{pastNine}
 use Rattle.writing.proofs.Lengths.{past}
 use Rattle.writing.proofs.wrapper.wrapped_past_nine.Statement.{statement}

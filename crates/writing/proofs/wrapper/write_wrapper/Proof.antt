@@ -1,19 +1,14 @@
 -- `write_wrapper` meets its contract: 68, 71, what the reader refuses, 70, then the wrapper is put.
 -- Assumes nothing.
 use borrow.Author.Needs.{needs}
-use Prim.Native.Nat.{ℕ, _+_, _-_, _^_, _≤_, _<_}
-use native.Mathlib.Omega.{arith}
-use borrow.Author.Tests.{lt-ltb, le-ltb, eq-eqb, ne-eqb, not-true, not-false, ltb-true, ltb-false}
+use Prim.Native.Nat.{ℕ, _+_, _-_}
 use mathlib.Core.Path.{_≡_, refl, _∙_, sym, ap}
-use mathlib.Core.Bool.{Bool, true, false, not, true≢false}
+use mathlib.Core.Bool.{Bool}
 use mathlib.Core.List.{List}
-use lib.ListN.{length, set, replicate, length-set}
-use lib.Seq.{sets, length-sets}
-use lib.Dec.{ltb, eqb}
-use Rattle.numbers.specs.Outcome.{Outcome, gives, refuses, pick, andThen}
-use Rattle.numbers.proofs.Outcomes.{by-test, then-by}
+use lib.ListN.{length}
+use Rattle.numbers.specs.Outcome.{gives}
 use Rattle.walking.proofs.Depths.{in-limit}
-use Rattle.checking.specs.Reading.{Done, done}
+use Rattle.checking.specs.Reading.{done}
 use Rattle.checking.specs.Read.{doneRead}
 use Rattle.encoding.specs.Fields.{varUIntSize}
 use Rattle.encoding.specs.Heads.{wrappedBytes, wrapperBytes}

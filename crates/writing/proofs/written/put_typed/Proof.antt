@@ -7,7 +7,7 @@ use mathlib.Core.Path.{_≡_, _∙_, sym, ap}
 use mathlib.Core.List.{List}
 use lib.ListN.{length}
 use lib.Seq.{sets}
-use Rattle.encoding.specs.Heads.{headBytes, headSize, typedBytes}
+use Rattle.encoding.specs.Heads.{headBytes, typedBytes}
 use Rattle.encoding.proofs.Heads.{head-few, typed-length}
 use Rattle.writing.proofs.Lengths.{not-past, too-short, fits, kept, typed-stored}
 use Rattle.writing.proofs.written.put_typed.Statement.{statement}
