@@ -49,7 +49,7 @@ stands-whole s =
     stands-by s 0 (length s) s (omega arith) (omega arith) (λ i h. ap (λ (j : ℕ). getD s j 0) (let z : 0 + i ≡ i = omega arith in z))
 
 module _ (limit : ℕ) (s : List ℕ) (g : outOfRange limit ≡ false) where
-  found-value : (v : Spans) → 0 < length s → (getD s 0 0 ≡ 224 → ⊥) → readFrame limit s 0 (length s) ≡ gives (valued v) → found limit Stream s (cursor 0 (length s)) ≡ stop (gives (value v))
+  pub found-value : (v : Spans) → 0 < length s → (getD s 0 0 ≡ 224 → ⊥) → readFrame limit s 0 (length s) ≡ gives (valued v) → found limit Stream s (cursor 0 (length s)) ≡ stop (gives (value v))
   unfolding found skipPads tileAt framedAt
   found-value v h n q =
       let e : length s - 0 ≡ suc (length s - 1) = omega arith in
@@ -73,7 +73,7 @@ module _ (limit : ℕ) (s : List ℕ) (g : outOfRange limit ≡ false) where
 
 -- ---- a container
 
-code-known : (n : ℕ) → eqb (headCode n) 15 ≡ false
+pub code-known : (n : ℕ) → eqb (headCode n) 15 ≡ false
 unfolding headCode
 code-known n = by-test (λ (c : ℕ). eqb c 15 ≡ false) (ltb n 14) (λ e. ne-eqb n 15 (omega (arith, ltb-true n 14 e))) (λ _. refl)
 
@@ -143,7 +143,7 @@ judged-as-a-map limit deepest type body l i t one =
     ∙ ap (λ (x : ℕ). partCheck limit n s (rulesOf type) (deepest - 1) x (0 + h) c) (sym y)
     ∙ ap (λ (x : ℕ). partCheck limit n s (rulesOf type) (deepest - 1) (h + n) x c) (sym z)))
 
-given-back : (n : ℕ) (o : Outcome (List ℕ)) → countedFrom n o ≡ gives done → (c : List ℕ) × (o ≡ gives c)
+pub given-back : (n : ℕ) (o : Outcome (List ℕ)) → countedFrom n o ≡ gives done → (c : List ℕ) × (o ≡ gives c)
 given-back n (gives c) e = (c, refl)
 given-back n (refuses k p) e = absurd (let z : _≡_ {A = ℕ} 0 1 = cc in omega arith)
 

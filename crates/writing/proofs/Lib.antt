@@ -12,3 +12,4 @@ pub mod OneByteValues
 pub mod ScalarsBack
 pub mod WrappersBack
 pub mod Judging
+pub mod ScalarsJudged
