@@ -17,7 +17,7 @@ use Rattle.stepping.specs.declared.cursor.Rules.the-variants.{Fields}
 use Rattle.checking.specs.Reading.{done}
 use Rattle.checking.specs.Check.{partCheck}
 use Rattle.checking.specs.Body.{bodyCheck}
-use Rattle.writing.specs.Answers.{judgedContainer}
+use Rattle.writing.specs.Answers.{bodyRoom, judgedContainer}
 
 -- an outcome that is a refusal
 record Refuses {A : Type 0} (o : Outcome A) : Type 0 where
@@ -50,7 +50,7 @@ module _ (limit : ℕ) (s : List ℕ) (one : length s ≡ 1) where
 pub one-byte-struct : (limit deepest type : ℕ) (body : List ℕ) → type ≡ 13 → length body ≡ 1 → judgedContainer limit deepest type body ≡ gives done → ⊥
 unfolding judgedContainer
 one-byte-struct limit deepest type body e n h =
-    let r = body-refused limit body n (deepest - 1) in
+    let r = body-refused limit body n (bodyRoom deepest) in
     let q : gives done ≡ refuses (r .number) (r .position) = sym h ∙ (rw (e, r .is)) in
     let z : _≡_ {A = ℕ} 0 1 = cc in
     omega arith
