@@ -23,6 +23,7 @@ pub(crate) mod kind {
     pub(crate) const DECIMAL: u64 = 10;
     pub(crate) const TIMESTAMP: u64 = 11;
     pub(crate) const CHECKED: u64 = 12;
+    #[cfg(feature = "alloc")]
     pub(crate) const WRITTEN: u64 = 17;
     pub(crate) const TEXT: u64 = 13;
     pub(crate) const SYMBOLS: u64 = 19;

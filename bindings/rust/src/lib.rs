@@ -24,6 +24,7 @@ mod steps;
 mod symbols;
 mod timestamp;
 mod walk;
+#[cfg(feature = "alloc")]
 mod writing;
 
 pub use annotations::{annotation, annotations, Annotation, Annotations};
@@ -33,7 +34,9 @@ pub use decimal::{decimal, Decimal};
 pub use item::{Item, Marker, Type, Value};
 pub use limits::Limits;
 pub use number::{int, var_int, var_uint, Int, VarInt, VarUInt};
-pub use packed::{pack, pack_into, packed_size};
+#[cfg(feature = "alloc")]
+pub use packed::pack;
+pub use packed::{pack_into, packed_size};
 pub use part::{Part, PartKind};
 pub use refusal::Refusal;
 pub use scalar::{scalar, Scalar};
@@ -41,4 +44,5 @@ pub use steps::{ids_begun, items, step, step_in, Body, Items};
 pub use symbols::{symbol_text, Symbols, SYSTEM_TEXT};
 pub use timestamp::{timestamp, Precision, Timestamp, TimestampOr};
 pub use walk::{walk, walked, Walk};
+#[cfg(feature = "alloc")]
 pub use writing::{MapWriter, Thing};

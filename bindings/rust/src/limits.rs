@@ -133,8 +133,9 @@ impl Limits {
         packed::packed_size_by(self, map)
     }
 
-    /// [`pack`](crate::pack) by these limits.
-    pub fn pack(self, map: &[u8]) -> Result<Vec<u8>, Refusal> {
+    /// [`pack`](crate::pack) by these limits. With the feature `alloc`.
+    #[cfg(feature = "alloc")]
+    pub fn pack(self, map: &[u8]) -> Result<alloc::vec::Vec<u8>, Refusal> {
         packed::pack_by(self, map)
     }
 

@@ -4,6 +4,8 @@ use crate::answer::{kind, Answer};
 use crate::limits::Limits;
 use crate::raw;
 use crate::refusal::Refusal;
+#[cfg(feature = "alloc")]
+use alloc::{vec, vec::Vec};
 
 /// How many bytes a map has once its pads are gone, a struct's with their field IDs, and its lengths are in their shortest
 /// form, those of wrappers included. A map that [`check`](crate::check) doesn't accept is refused as there.
@@ -29,7 +31,7 @@ pub(crate) fn packed_size_by(limits: Limits, map: &[u8]) -> Result<usize, Refusa
 
 /// The packed map: without pads, a struct's with their field IDs, and with each length in its shortest form. Field IDs,
 /// annotations and the bodies of scalars stay byte for byte. [`check`](crate::check) accepts it, with the same counts but no
-/// pads, and packing it again changes nothing.
+/// pads, and packing it again changes nothing. With the feature `alloc`.
 ///
 /// ```
 /// use ion_map::{pack, Refusal};
@@ -37,6 +39,7 @@ pub(crate) fn packed_size_by(limits: Limits, map: &[u8]) -> Result<usize, Refusa
 /// assert_eq!(pack(&[0xD5, 0x84, 0x00, 0x85, 0x21, 0x07, 0x00])?, [0xD3, 0x85, 0x21, 0x07]);
 /// # Ok::<(), Refusal>(())
 /// ```
+#[cfg(feature = "alloc")]
 pub fn pack(map: &[u8]) -> Result<Vec<u8>, Refusal> {
     pack_by(Limits::DEFAULT, map)
 }
@@ -59,6 +62,7 @@ pub fn pack_into(map: &[u8], packed: &mut [u8]) -> Result<usize, Refusal> {
 }
 
 // A packed map is no longer than the map, so that a buffer of its length always does.
+#[cfg(feature = "alloc")]
 pub(crate) fn pack_by(limits: Limits, map: &[u8]) -> Result<Vec<u8>, Refusal> {
     let mut packed = vec![0; map.len()];
     let size = pack_into_by(limits, map, &mut packed)?;

@@ -5,12 +5,14 @@ use crate::item::Type;
 use crate::limits::Limits;
 use crate::raw_write;
 use crate::refusal::Refusal;
+use alloc::{vec, vec::Vec};
 
 /// Room for a descriptor and a length field, or a scalar of eight bytes behind them.
 const HEADER: usize = 10;
 
 /// A scalar, null or pad to be written.
 #[derive(Clone, Copy, Debug, PartialEq)]
+#[non_exhaustive]
 pub enum Thing<'a> {
     /// A null of a type.
     Null(Type),

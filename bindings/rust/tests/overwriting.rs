@@ -166,6 +166,7 @@ fn pads(map: &[u8], part: Part) -> Vec<Site> {
         let end = match steps.next() {
             Some(Ok(Bounded::More { position, .. })) => position,
             Some(Ok(Bounded::Reached(item))) => item.span().start,
+            Some(Ok(other)) => unreachable!("a step reaches an item or passes pads: {other:?}"),
             Some(Err(_)) => return gaps,
             None => steps.position(),
         };
