@@ -60,6 +60,9 @@ REFUSALS = {
 
 PACKED_SIZE, PACKED = 15, 16
 
+# The file of the functions that write: its questions and answers are derive_writes.py's, here they are only counted.
+OF_WRITES = "write"
+
 # How many numbers a question has before its limits.
 NUMBERS = {"step": 5, "steps": 5, "annotation": 4, "step_in": 4, "scalar": 4, "number": 6, "decimal": 3, "timestamp": 4}
 NUMBERS |= {"packed_size": 1, "pack": 2}
@@ -677,8 +680,13 @@ def same(ours, theirs):
 # ===== Files =====
 
 
-def names():
+def all_names():
     return [name.removesuffix(".txt") for name in (FOLDER / "args").read_text().split()]
+
+
+def names():
+    """The files whose answers are derived here."""
+    return [name for name in all_names() if name != OF_WRITES]
 
 
 def stored(name):
@@ -687,8 +695,12 @@ def stored(name):
         yield line, "" if line.startswith("#") or not line else line.partition(" = ")[0]
 
 
+def counts():
+    """What the program writes where all agree."""
+    return "".join(f"{name}.txt: {sum(1 for _, question in stored(name) if question)} agree, 0 differ\n" for name in all_names())
+
+
 def files():
-    counts = ""
     for name in names():
         lines = [f"{question} = {answer(question)}" if question else line for line, question in stored(name)]
         questions = [question for _, question in stored(name) if question]
@@ -696,8 +708,7 @@ def files():
         assert numbers - {0} == REFUSALS[name], (name, numbers ^ REFUSALS[name])
         assert len(set(questions)) == len(questions), name
         yield f"data/{name}.txt", "".join(line + "\n" for line in lines)
-        counts += f"{name}.txt: {len(questions)} agree, 0 differ\n"
-    yield "stdout", counts
+    yield "stdout", counts()
 
 
 def write():

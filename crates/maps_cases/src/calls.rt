@@ -3,7 +3,7 @@ ghost use mathlib.Core.Path.{_≡_};
 ghost use Prim.Native.Nat.{_<_, _≤_};
 ghost use lib.ListN.{length};
 use crate::packed_calls;
-use crate::symbol_calls;
+use crate::write_calls;
 use additions::bounded::ion_map_step_bounded;
 use maps::exports::ion_map_annotation;
 use additions::readings::ion_map_check;
@@ -64,6 +64,9 @@ fn size_word(asked: &[u8]) -> usize {
         return 2;
     }
     if check::same(asked, b"pack") {
+        return 2;
+    }
+    if write_calls::is_write(asked) {
         return 2;
     }
     if check::same(asked, b"decimal") {

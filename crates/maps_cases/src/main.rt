@@ -3,13 +3,14 @@
 mod calls;
 mod packed_calls;
 mod symbol_calls;
+mod write_calls;
 
 use questions::comparing;
 use questions::comparing::Tally;
 use questions::text;
 use questions::text::Line;
 
-// The answer to a line: the function's name without `ion_map_`, the map's bytes in hexadecimal, and the other arguments.
+// The answer to a line: the function's name without `ion_map_`, the map's or the lent bytes in hexadecimal, and the other arguments.
 fn answer(line: &[u8]) -> Line {
     let mut bytes = [0u8; 4096];
     let n = text::hex(text::word(line, 1), &mut bytes);

@@ -1,5 +1,5 @@
 // Calls of the exported functions on packed maps: what each returns, and what it leaves in its buffers.
-use crate::symbol_calls;
+use crate::write_calls;
 use additions::packed::ion_map_pack;
 use additions::packed::ion_map_packed_size;
 use questions::text::Line;
@@ -55,5 +55,5 @@ pub fn called(line: &[u8], map: &[u8], out: &mut [u8]) -> Line {
     if check::same(asked, b"pack") {
         return packed(line, map, out);
     }
-    symbol_calls::called(line, map, out)
+    write_calls::called(line, map, out)
 }
