@@ -38,6 +38,13 @@ use Rattle.encoding.proofs.Heads.{head-shortest, typed-back, wrapper-back}
 use Rattle.packing.proofs.Twice.{packed-short, packed-tree, packed-twice}
 use Rattle.packing.proofs.Accepted.{packed-accepted}
 use Rattle.packing.proofs.SameItems.{same-items}
+use Rattle.writing.proofs.Back.{values-back}
+use Rattle.writing.proofs.OneByteValues.{nulls-back, bools-back}
+use Rattle.writing.proofs.PadsBack.{pads-back}
+use Rattle.writing.proofs.ScalarsBack.{scalars-back, containers-back}
+use Rattle.writing.proofs.WrappersBack.{wrappers-back}
+use Rattle.writing.proofs.Judging.{judged-as-a-map, accepted-as-a-map}
+use Rattle.writing.proofs.ScalarsJudged.{scalars-judged, scalars-accepted}
 use Rattle.runs.proofs.Overwriting.{overwriting}
 use Rattle.runs.proofs.OneBody.{still-reached}
 use Rattle.runs.proofs.PartSets.{parts-are-sets}
@@ -124,6 +131,17 @@ equal =
       packedTwice = packed-twice;
       packedAccepted = packed-accepted;
       sameItems = same-items;
+      valuesBack = values-back;
+      nullsBack = nulls-back;
+      boolsBack = bools-back;
+      padsBack = pads-back;
+      scalarsBack = scalars-back;
+      containersBack = containers-back;
+      wrappersBack = wrappers-back;
+      judgedContainers = judged-as-a-map;
+      judgedScalars = scalars-judged;
+      acceptedContainers = accepted-as-a-map;
+      acceptedScalars = scalars-accepted;
       limitRange = limit-range;
       limitsRange = limits-range;
       depthBound = visit-depth;

@@ -25,6 +25,9 @@ use Rattle.checking.specs.Unrefused.{Baking}
 use Rattle.checking.specs.Moved.{ItemsAlike}
 use Rattle.encoding.specs.Meaning.{VarUIntSized, VarUIntShortest, HeadShortest, TypedBack, WrapperBack}
 use Rattle.packing.specs.Theorems.{PackedShort, PackedTree, PackedTwice, PackedAccepted, SameItems}
+use Rattle.writing.specs.Theorems.{ValuesBack, NullsBack, BoolsBack, PadsBack}
+use Rattle.writing.specs.Back.{ScalarsBack, ContainersBack, WrappersBack}
+use Rattle.writing.specs.Judged.{JudgedContainers, JudgedScalars, AcceptedContainers, AcceptedScalars}
 use Rattle.runs.specs.Theorems.{Overwriting, PartsAreSets, StillReached}
 use Rattle.runs.specs.Program.{ProgramEnds, ProgramTiling, ProgramOverwriting, ProgramOneBody}
 use Rattle.overwriting.specs.TextsStay.{TextsStay}
@@ -142,6 +145,19 @@ pub record Equal : Type 0 where
   pub packedTwice : PackedTwice
   pub packedAccepted : PackedAccepted
   pub sameItems : SameItems
+  -- what is written, by the change request A.13: "The reader gives back each thing written", wherever it stands; "Where A.5 would refuse what is to be written,
+  -- taken as a map, its number is given", and what is written A.5 accepts
+  pub valuesBack : ValuesBack
+  pub nullsBack : NullsBack
+  pub boolsBack : BoolsBack
+  pub padsBack : PadsBack
+  pub scalarsBack : ScalarsBack
+  pub containersBack : ContainersBack
+  pub wrappersBack : WrappersBack
+  pub judgedContainers : JudgedContainers
+  pub judgedScalars : JudgedScalars
+  pub acceptedContainers : AcceptedContainers
+  pub acceptedScalars : AcceptedScalars
   -- the limits, by the change request A.9: each theorem here is for every limit of annotation bytes and every depth. 68 is answered outside 255 to 65535 and
   -- 1 to 64, and there alone; and nothing is met deeper than the depth given.
   pub limitRange : LimitRange
