@@ -86,7 +86,7 @@ fn fail(why: &str) -> ! {
 }
 
 /// The functions that the comparison calls.
-const EXPORTS: [&str; 15] = [
+const EXPORTS: [&str; 26] = [
     "ion_map_step",
     "ion_map_steps",
     "ion_map_annotation",
@@ -102,6 +102,17 @@ const EXPORTS: [&str; 15] = [
     "ion_map_symbol_text",
     "ion_map_step_bounded",
     "ion_map_check",
+    "ion_map_packed_size",
+    "ion_map_pack",
+    "ion_map_write_null",
+    "ion_map_write_bool",
+    "ion_map_write_int",
+    "ion_map_write_float",
+    "ion_map_write_symbol",
+    "ion_map_write_pad",
+    "ion_map_write_scalar",
+    "ion_map_write_container",
+    "ion_map_write_wrapper",
 ];
 
 /// Links a program with our reader, and the fuzzer's with libFuzzer.

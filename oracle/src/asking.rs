@@ -323,7 +323,7 @@ fn magnitude(value: &Int) -> u128 {
 // ===== Decimals =====
 
 /// The descriptor of a type for a body of this length: an empty one has no length field.
-pub(crate) fn head(type_code: u8, length: usize) -> Vec<u8> {
+pub fn head(type_code: u8, length: usize) -> Vec<u8> {
     if length < 14 {
         return vec![type_code << 4 | length as u8];
     }

@@ -41,6 +41,7 @@ pub mod v1_0 {
 pub mod asking;
 pub mod checks;
 pub mod harness;
+pub mod packed;
 pub mod refusals;
 pub mod requests;
 pub mod timestamps;

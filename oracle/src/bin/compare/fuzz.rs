@@ -14,6 +14,8 @@ mod maps;
 #[allow(dead_code)]
 mod ours;
 #[allow(dead_code)]
+mod packing;
+#[allow(dead_code)]
 mod pads;
 #[allow(dead_code)]
 mod question;
@@ -23,6 +25,8 @@ mod session;
 mod shrink;
 #[allow(dead_code)]
 mod walking;
+#[allow(dead_code)]
+mod writing;
 
 use inputs::{ask_at, ask_whole, cut};
 use ours::{Exports, Part};

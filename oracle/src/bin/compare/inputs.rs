@@ -4,7 +4,7 @@ use crate::judge::MOST_ROOM;
 use crate::maps::{joined, run, var_uint, Map, Random};
 use crate::maps::{BAD_TEXTS, DOUBLES, GOOD_TEXTS, INTERESTING, LARGE, SINGLES, SMALL};
 use crate::ours::{Part, Reader, RECORD, WORD};
-use crate::question::{Ask, ENTRIES, INT, SEQUENCE, STREAM, STRUCT, VAR_INT, VAR_UINT};
+use crate::question::{Ask, Thing, ENTRIES, INT, SEQUENCE, STREAM, STRUCT, VAR_INT, VAR_UINT};
 use crate::session::Session;
 use oracle::asking::Limits;
 
@@ -22,6 +22,8 @@ pub struct Plan {
     /// Maps with symbol tables.
     pub symbols: usize,
     pub pads: usize,
+    /// Things that are written.
+    pub writes: usize,
 }
 
 pub const FULL: Plan = Plan {
@@ -33,6 +35,7 @@ pub const FULL: Plan = Plan {
     limits: 400_000,
     symbols: 1_000_000,
     pads: 400_000,
+    writes: 4_000_000,
 };
 
 pub const SHORT: Plan = Plan {
@@ -44,6 +47,7 @@ pub const SHORT: Plan = Plan {
     limits: 40_000,
     symbols: 100_000,
     pads: 40_000,
+    writes: 400_000,
 };
 
 /// For the wrong readers.
@@ -56,6 +60,7 @@ pub const SMALLEST: Plan = Plan {
     limits: 8_000,
     symbols: 20_000,
     pads: 4_000,
+    writes: 8_000,
 };
 
 /// Bytes that, of all, change the most where they stand.
@@ -92,6 +97,10 @@ pub fn ask_all<R: Reader>(session: &mut Session<R>, plan: Plan, seed: u64) {
     session.stage("pads");
     for _ in 0..plan.pads {
         pads(session, &mut random);
+    }
+    session.stage("things to be written");
+    for number in 0..plan.writes {
+        writes(session, &mut random, number);
     }
     session.stage("end");
 }
@@ -151,6 +160,7 @@ fn ask_walk<R: Reader>(session: &mut Session<R>, map: &[u8], part: Part) {
     session.ask(map, Ask::Walk, part);
     session.ask(map, Ask::Walked(u64::MAX), part);
     session.ask(map, Ask::Check, part);
+    session.ask(map, Ask::Pack, part);
 }
 
 /// Every question at every place, up to every end, and with some damage.
@@ -764,4 +774,197 @@ fn near_limits(random: &mut Random, limits: Limits, number: usize) -> Vec<u8> {
         _ => random.any(SMALL).bytes,
     };
     placed(random, bytes)
+}
+
+// ===== Things that are written =====
+
+/// A thing of any kind, of good bytes and bad ones.
+fn writes<R: Reader>(session: &mut Session<R>, random: &mut Random, number: usize) {
+    if session.is_done() {
+        return;
+    }
+    // Limits matter to containers and wrappers alone.
+    let limits = match random.below(4) {
+        0 => any_limits(random, number / 32),
+        _ => Limits::USUAL,
+    };
+    let (thing, first, value) = match number % 16 {
+        0 => (Thing::Null(any_code(random, 0, 13)), Vec::new(), Vec::new()),
+        1 => (Thing::Bool(any_flag(random)), Vec::new(), Vec::new()),
+        2 | 3 => (Thing::Int(any_flag(random)), magnitude(random), Vec::new()),
+        4 => (Thing::Float(any_bits(random)), Vec::new(), Vec::new()),
+        5 => (Thing::Symbol(any_id(random)), Vec::new(), Vec::new()),
+        6 | 7 => (Thing::Pad(pad_size(random, number / 16)), Vec::new(), Vec::new()),
+        8..=10 => {
+            let (code, body) = representation(random);
+            (Thing::Scalar(code), body, Vec::new())
+        }
+        11..=13 => {
+            let code = any_code(random, 11, 13);
+            (Thing::Container(code), inside(random, code == 13, limits), Vec::new())
+        }
+        _ => {
+            let (ids, value) = annotated(random, limits);
+            (Thing::Wrapper, ids, value)
+        }
+    };
+    let bytes = joined(&[&first, &value]);
+    let part = Part {
+        limits,
+        ..Part::whole(&bytes).at(first.len())
+    };
+    session.ask(&bytes, Ask::Write(thing), part);
+}
+
+/// A type's code, now and then one that isn't among those.
+fn any_code(random: &mut Random, low: usize, high: usize) -> usize {
+    match random.below(24) {
+        0 => random.pick(&[0, 4, 7, 10, 11, 14, 15, 16, 256, 1 << 32, usize::MAX]),
+        _ => random.from_to(low, high),
+    }
+}
+
+fn any_flag(random: &mut Random) -> u64 {
+    match random.below(16) {
+        0 => random.pick(&[2, 255, 256, 1 << 32, u64::MAX]),
+        _ => random.below(2) as u64,
+    }
+}
+
+/// Up to 17 bytes, some of them leading zeros; now and then many more.
+fn magnitude(random: &mut Random) -> Vec<u8> {
+    let zeros = random.pick(&[0, 0, 0, 1, 2, 9, 130]);
+    let size = match random.below(40) {
+        0 => random.pick(&[126, 127, 128, 129, 300]),
+        _ => random.below(18),
+    };
+    joined(&[&vec![0; zeros], &random.bytes(size)])
+}
+
+fn any_bits(random: &mut Random) -> u64 {
+    let number = |bytes: Vec<u8>| bytes.iter().fold(0, |bits, byte| bits << 8 | *byte as u64);
+    match random.below(4) {
+        0 => number(random.word(DOUBLES)),
+        // Infinities and NaNs are rare among random bits.
+        1 => random.next() | 0x7FF << 52,
+        _ => random.next(),
+    }
+}
+
+fn any_id(random: &mut Random) -> u64 {
+    let edge = 1u64 << (8 * random.below(8));
+    match random.below(4) {
+        0 => edge,
+        1 => edge - 1,
+        2 => random.pick(&[0, 1, 9, 10, u64::MAX, 1 << 63]),
+        _ => random.next() >> random.below(64),
+    }
+}
+
+/// A pad's size: small, about a length in one VarUInt byte more, too large, or 0.
+fn pad_size(random: &mut Random, number: usize) -> usize {
+    match random.below(40) {
+        0 => 0,
+        1 => random.pick(&[1 << 32, 1 << 62, 1 << 63, usize::MAX, usize::MAX - 1]),
+        2 => (1 << 63) + random.from_to(5, 14),
+        3 if number % 50 == 0 => (1 << 21) + random.below(8),
+        3..=5 => random.from_to(16_380, 16_400),
+        6..=12 => random.from_to(1, 20),
+        13..=19 => random.from_to(126, 134),
+        _ => random.from_to(1, 300),
+    }
+}
+
+/// A type and its representation.
+fn representation(random: &mut Random) -> (usize, Vec<u8>) {
+    let code = random.pick(&[5, 5, 6, 6, 6, 8, 8, 9, 10]);
+    let body = match code {
+        5 if random.one_in(12) => Vec::new(),
+        5 => random.decimal_body(),
+        6 if random.one_in(12) => random.word("- 80 C0 81 00"),
+        6 => random.timestamp_body(),
+        8 => {
+            let texts = format!("{GOOD_TEXTS} {BAD_TEXTS}");
+            let good = random.word(GOOD_TEXTS);
+            let is_any = random.one_in(2);
+            let text = random.word(if is_any { &texts } else { GOOD_TEXTS });
+            joined(&[&good, &text])
+        }
+        _ => {
+            let size = match random.below(40) {
+                0 => random.from_to(16_382, 16_386),
+                1..=8 => random.from_to(126, 130),
+                _ => random.below(18),
+            };
+            random.bytes(size)
+        }
+    };
+    match random.one_in(24) {
+        true => (random.pick(&[0, 2, 4, 7, 11, 13, 14, usize::MAX]), body),
+        false => (code, body),
+    }
+}
+
+/// What is to be in a container, as it should be or not.
+fn inside(random: &mut Random, is_struct: bool, limits: Limits) -> Vec<u8> {
+    let size = if random.one_in(3) { LARGE } else { SMALL };
+    let mut bytes = match random.below(12) {
+        0 => vec![random.pick(INTERESTING)],
+        1 => random.any(size).bytes,
+        2 => field(random),
+        3 => {
+            let depth = limits.depth.clamp(1, 64);
+            let deep = random.from_to(depth - 1, depth + 1);
+            let value = random.deep(deep).bytes;
+            match is_struct {
+                true => joined(&[&random.id(), &value]),
+                false => value,
+            }
+        }
+        4 => {
+            let id = if is_struct { random.id() } else { Vec::new() };
+            joined(&[&id, &at_boundary(random, size.body)])
+        }
+        _ => random.body(size, is_struct).bytes,
+    };
+    if random.one_in(4) {
+        random.damage(&mut bytes);
+    }
+    bytes
+}
+
+/// Annotation bytes and a value to be annotated, as they should be or not.
+fn annotated(random: &mut Random, limits: Limits) -> (Vec<u8>, Vec<u8>) {
+    let mut ids = Vec::new();
+    for _ in 0..random.pick(&[0, 1, 1, 1, 2, 2, 3]) {
+        ids.extend(random.id());
+    }
+    if random.one_in(8) {
+        let most = match limits.annotations {
+            most @ 255..=300 => most,
+            _ => 255,
+        };
+        ids = run(0x84, 0x85, 0x86, random.from_to(most - 2, most + 2));
+    }
+    if random.one_in(12) {
+        random.damage(&mut ids);
+    }
+    let size = if random.one_in(3) { LARGE } else { SMALL };
+    let mut value = match random.below(6) {
+        0 => random.word(
+            "20 2105 0F 11 12 2F 00 01AA E3818420 E0 E00100EA EF F0 2E8107 4E80 4100 6180 D0 D180 \
+             D1828420 B120 820102 - 3100 8180 71FF 2020 2000 21 04",
+        ),
+        1 => random.value(size).bytes,
+        2 => {
+            let depth = limits.depth.clamp(1, 64);
+            let deep = random.from_to(depth - 1, depth + 1);
+            random.deep(deep).bytes
+        }
+        _ => random.plain(size).bytes,
+    };
+    if random.one_in(6) {
+        random.damage(&mut value);
+    }
+    (ids, value)
 }

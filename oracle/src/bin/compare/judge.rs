@@ -35,8 +35,8 @@ pub struct Tally {
     pub refusals: Refusals,
 }
 
-/// How often something was met, by a refusal's number; the highest is 68.
-pub type Counts = [u64; 69];
+/// How often something was met, by a refusal's number; the highest is 71.
+pub type Counts = [u64; 72];
 
 #[derive(Clone, Copy)]
 pub struct Refusals {
@@ -46,7 +46,7 @@ pub struct Refusals {
 }
 
 impl Refusals {
-    fn count(&mut self, number: usize, own: bool) {
+    pub fn count(&mut self, number: usize, own: bool) {
         self.all[number] += 1;
         self.own[number] += own as u64;
     }
@@ -77,8 +77,8 @@ impl<R: Reader> Judge<R> {
                 moved: [0; REQUESTS.len()],
                 differ: 0,
                 refusals: Refusals {
-                    all: [0; 69],
-                    own: [0; 69],
+                    all: [0; 72],
+                    own: [0; 72],
                 },
             },
         }
@@ -125,19 +125,21 @@ impl<R: Reader> Judge<R> {
 // ===== The buffer that is lent =====
 
 /// What the buffer holds before a call.
-const FILL: u8 = 0xA5;
+pub const FILL: u8 = 0xA5;
 
 /// What the count of many steps is before a call.
 const UNSET: u64 = u64::MAX;
 
 /// Bytes behind the room that is lent, which no call may touch.
-const GUARD: usize = 16;
+pub const GUARD: usize = 16;
 
 /// The most room that is lent.
 pub const MOST_ROOM: usize = 24 * RECORD;
 
-struct Desk {
+pub struct Desk {
     buffer: [u8; MOST_ROOM + GUARD],
+    /// What is packed or written into.
+    to: Vec<u8>,
     /// Where both answers are written down, if somebody wants them.
     trace: Option<Vec<String>>,
 }
@@ -146,30 +148,54 @@ impl Desk {
     fn new() -> Self {
         Desk {
             buffer: [FILL; MOST_ROOM + GUARD],
+            to: Vec::new(),
             trace: None,
         }
     }
 
-    fn lend(&mut self, room: usize) -> &mut [u8] {
+    pub fn lend(&mut self, room: usize) -> &mut [u8] {
         self.buffer[..room + GUARD].fill(FILL);
         &mut self.buffer[..room]
+    }
+
+    /// So many bytes to pack or write into, and room for the record.
+    pub fn lend_both(&mut self, bytes: usize, room: usize) -> (&mut [u8], &mut [u8]) {
+        self.to.clear();
+        self.to.resize(bytes + GUARD, FILL);
+        self.buffer[..room + GUARD].fill(FILL);
+        (&mut self.to[..bytes], &mut self.buffer[..room])
+    }
+
+    /// What was packed or written into, and the bytes behind it.
+    pub fn to(&self) -> &[u8] {
+        &self.to
+    }
+
+    /// Exactly these bytes were packed or written.
+    pub fn holds(&self, bytes: &[u8]) -> bool {
+        let (written, behind) = self.to.split_at(bytes.len().min(self.to.len()));
+        written == bytes && behind.iter().all(|byte| *byte == FILL)
+    }
+
+    pub fn is_noted(&self) -> bool {
+        self.trace.is_some()
     }
 
     fn slot(&self, index: usize) -> &[u8] {
         &self.buffer[index * RECORD..(index + 1) * RECORD]
     }
 
-    fn record(&self) -> Record {
+    pub fn record(&self) -> Record {
         Record::read(self.slot(0))
     }
 
     /// Nothing is written from `from` on, behind a room of `room` bytes.
-    fn is_untouched(&self, from: usize, room: usize) -> bool {
+    pub fn is_untouched(&self, from: usize, room: usize) -> bool {
         let behind = &self.buffer[from..room + GUARD];
         behind.iter().fold(0, |bits, byte| bits | (byte ^ FILL)) == 0
     }
 
-    fn note(&mut self, fine: bool, rust: impl FnOnce() -> String, ours: impl FnOnce() -> String) {
+    pub fn note(&mut self, fine: bool, rust: impl FnOnce() -> String, ours: impl FnOnce() -> String) {
         if let Some(trace) = &mut self.trace {
             let sign = if fine { "  " } else { "! " };
             trace.push(format!("{sign}the Rust: {}; ours: {}", rust(), ours()));
@@ -185,14 +211,14 @@ fn room_for(part: Part) -> usize {
 // ===== Comparing =====
 
 /// What a comparison needs, for one question.
-struct Bench<'a, R> {
-    reader: &'a R,
-    context: &'a EncodingContext,
-    desk: &'a mut Desk,
-    refusals: &'a mut Refusals,
-    map: &'a [u8],
+pub struct Bench<'a, R> {
+    pub reader: &'a R,
+    pub context: &'a EncodingContext,
+    pub desk: &'a mut Desk,
+    pub refusals: &'a mut Refusals,
+    pub map: &'a [u8],
     /// The request that moved an answer. That one is a refusal, with which a question ends.
-    moved: Option<Request>,
+    pub moved: Option<Request>,
 }
 
 const RULES: [Rules; 3] = [Rules::Stream, Rules::Sequence, Rules::Struct];
@@ -203,7 +229,9 @@ impl<'a, R: Reader> Bench<'a, R> {
         let fine = match question.ask {
             Ask::Short(entry, room) => self.short(entry, room, part),
             Ask::Check if part.is_inside(self.map) => return self.whole(part),
-            Ask::Check => true,
+            Ask::Pack if part.is_inside(self.map) => return self.pack(part),
+            Ask::Write(thing) if part.is_inside(self.map) => return self.write(thing, part),
+            Ask::Check | Ask::Pack | Ask::Write(_) => true,
             // The part of a walk is cut out by the harness, so it is inside, and so are the limits.
             Ask::Walk if question.is_out_of_range() => true,
             Ask::Walked(most) if question.is_out_of_range() => self.count_is(part, most, 0..=0),
@@ -231,7 +259,7 @@ impl<'a, R: Reader> Bench<'a, R> {
         self.verdict_of(fine)
     }
 
-    fn verdict_of(&self, fine: bool) -> Verdict {
+    pub fn verdict_of(&self, fine: bool) -> Verdict {
         match (fine, self.moved) {
             (false, _) => Verdict::Differ,
             (true, Some(request)) => Verdict::Moved(request),
@@ -661,14 +689,19 @@ impl<'a, R: Reader> Bench<'a, R> {
     /// The part, cut out, as a map: accepted with the Rust's counts and the pads of each of its steps, or its first refusal.
     fn whole(&mut self, part: Part) -> Verdict {
         let map = &self.map[part.position..part.end];
+        let (fine, is_open, _) = self.checks(map, part);
+        match self.verdict_of(fine) {
+            Verdict::Agree if is_open => Verdict::Apart,
+            verdict => verdict,
+        }
+    }
+
+    /// Whether our check of a map is the Rust's; whether the Rust's decides nothing further; and our record.
+    pub fn checks(&mut self, map: &[u8], part: Part) -> (bool, bool, [u64; CHECK_WORDS]) {
         let room = CHECK + (part.position & 1) * GUARD;
         let returned = self.reader.check(map, part.limits, self.desk.lend(room));
         let ours = words_of(&self.desk.buffer[..CHECK]);
         let (wanted, is_open) = self.checked(map, part);
-        self.moved = self.moved.or(match wanted {
-            Err(Stop::Refused(refusal)) => refusal.moved,
-            _ => None,
-        });
         let is_fine = match wanted {
             _ if self.moved == Some(Request::HigherLimit) => true,
             Ok(words) => ours == words,
@@ -681,14 +714,11 @@ impl<'a, R: Reader> Bench<'a, R> {
             || format!("{wanted:?}"),
             || format!("{ours:?} returned {returned}"),
         );
-        match self.verdict_of(fine) {
-            Verdict::Agree if is_open => Verdict::Apart,
-            verdict => verdict,
-        }
+        (fine, is_open, ours)
     }
 
     /// The record wanted, or where the Rust stops; and whether that decides nothing further.
-    fn checked(&mut self, map: &[u8], part: Part) -> (Result<[u64; CHECK_WORDS], Stop>, bool) {
+    pub fn checked(&mut self, map: &[u8], part: Part) -> (Result<[u64; CHECK_WORDS], Stop>, bool) {
         let limits = Question::new(Ask::Check, part);
         if limits.is_out_of_range() {
             let refusal = Refusal::own(68, Some(0));
@@ -709,12 +739,17 @@ impl<'a, R: Reader> Bench<'a, R> {
                 words[3..].copy_from_slice(&counts.types);
                 (Ok(words), false)
             }
-            Err(stop) => (Err(stop), matches!(stop, Stop::Open(_))),
+            Err(stop) => {
+                if let Stop::Refused(refusal) = stop {
+                    self.moved = self.moved.or(refusal.moved);
+                }
+                (Err(stop), matches!(stop, Stop::Open(_)))
+            }
         }
     }
 
     /// Whether our record is the refusal where the Rust stops. Where its answer is open, ours may go on.
-    fn is_stopped(&mut self, map: &[u8], part: Part, stop: Stop, ours: [u64; CHECK_WORDS]) -> bool {
+    pub fn is_stopped(&mut self, map: &[u8], part: Part, stop: Stop, ours: [u64; CHECK_WORDS]) -> bool {
         let [kind, number, position, zeros @ ..] = ours;
         let is_refusal = kind == 9 && zeros == [0; CHECK_WORDS - 3];
         let at = position as usize;
@@ -775,9 +810,10 @@ impl<'a, R: Reader> Bench<'a, R> {
             Ask::Number(form, size) => (Entry::Number, form, size),
             Ask::Decimal => (Entry::Decimal, 0, 0),
             Ask::Bounded(rules, most) => (Entry::Bounded, rules, most),
-            Ask::Walk | Ask::Walked(_) | Ask::Check | Ask::Ids | Ask::Short(..) => {
+            Ask::Walk | Ask::Walked(_) | Ask::Ids | Ask::Short(..) => {
                 unreachable!("asked elsewhere")
             }
+            Ask::Check | Ask::Pack | Ask::Write(_) => unreachable!("asked elsewhere"),
         };
         let room = room_for(part);
         let returned = self.call(entry, part, kind, size, room, &mut count);
@@ -820,11 +856,21 @@ impl<'a, R: Reader> Bench<'a, R> {
             Entry::Decimal => reader.decimal(map, part, out),
             Entry::Bounded => reader.step_bounded(map, part, kind, size, out),
             Entry::Check => reader.check(map, part.limits, out),
+            Entry::PackedSize => reader.packed_size(map, part.limits, out),
+            Entry::Pack => {
+                let mut to = [FILL; GUARD];
+                let returned = reader.pack(map, part.limits, &mut to, out);
+                if to == [FILL; GUARD] {
+                    returned
+                } else {
+                    UNSET
+                }
+            }
         }
     }
 }
 
-fn written(record: Record) -> String {
+pub fn written(record: Record) -> String {
     let words: Vec<String> = record.0.iter().map(|word| word.to_string()).collect();
     words.join(" ")
 }

@@ -1,5 +1,6 @@
-//! Our reader: the functions that `libion_map.a` exports, and the layer through which they are asked.
+//! Our reader and writer: the functions that `libion_map.a` exports, and the layer through which they are asked.
 
+use crate::question::Thing;
 use oracle::asking::Limits;
 pub use oracle::RECORD_WORDS as WORDS;
 use std::ops::RangeInclusive;
@@ -130,6 +131,100 @@ mod exported {
             position: usize,
             annotations: usize,
         ) -> u64;
+        pub fn ion_map_packed_size(
+            map: *const u8,
+            length: usize,
+            annotations: usize,
+            depth: usize,
+            out: *mut u8,
+            room: usize,
+        ) -> u64;
+        pub fn ion_map_pack(
+            map: *const u8,
+            length: usize,
+            annotations: usize,
+            depth: usize,
+            to: *mut u8,
+            to_room: usize,
+            out: *mut u8,
+            room: usize,
+        ) -> u64;
+        pub fn ion_map_write_null(
+            code: usize,
+            to: *mut u8,
+            to_room: usize,
+            out: *mut u8,
+            room: usize,
+        ) -> u64;
+        pub fn ion_map_write_bool(
+            value: u64,
+            to: *mut u8,
+            to_room: usize,
+            out: *mut u8,
+            room: usize,
+        ) -> u64;
+        pub fn ion_map_write_int(
+            magnitude: *const u8,
+            length: usize,
+            negative: u64,
+            to: *mut u8,
+            to_room: usize,
+            out: *mut u8,
+            room: usize,
+        ) -> u64;
+        pub fn ion_map_write_float(
+            bits: u64,
+            to: *mut u8,
+            to_room: usize,
+            out: *mut u8,
+            room: usize,
+        ) -> u64;
+        pub fn ion_map_write_symbol(
+            id: u64,
+            to: *mut u8,
+            to_room: usize,
+            out: *mut u8,
+            room: usize,
+        ) -> u64;
+        pub fn ion_map_write_pad(
+            size: usize,
+            to: *mut u8,
+            to_room: usize,
+            out: *mut u8,
+            room: usize,
+        ) -> u64;
+        pub fn ion_map_write_scalar(
+            code: usize,
+            body: *const u8,
+            length: usize,
+            to: *mut u8,
+            to_room: usize,
+            out: *mut u8,
+            room: usize,
+        ) -> u64;
+        pub fn ion_map_write_container(
+            code: usize,
+            body: *const u8,
+            length: usize,
+            annotations: usize,
+            depth: usize,
+            to: *mut u8,
+            to_room: usize,
+            out: *mut u8,
+            room: usize,
+        ) -> u64;
+        pub fn ion_map_write_wrapper(
+            annotation_bytes: *const u8,
+            annotation_length: usize,
+            value: *const u8,
+            value_length: usize,
+            annotations: usize,
+            depth: usize,
+            to: *mut u8,
+            to_room: usize,
+            out: *mut u8,
+            room: usize,
+        ) -> u64;
     }
 }
 
@@ -184,6 +279,14 @@ impl Part {
     }
 }
 
+/// What is lent to be written: a magnitude, a representation, a body, or annotation bytes and a value.
+#[derive(Clone, Copy)]
+pub struct Lent<'a> {
+    pub first: &'a [u8],
+    pub value: &'a [u8],
+    pub limits: Limits,
+}
+
 #[derive(Clone, Copy, Debug, PartialEq)]
 pub struct Record(pub [u64; WORDS]);
 
@@ -233,6 +336,9 @@ pub trait Reader {
     fn check(&self, map: &[u8], limits: Limits, out: &mut [u8]) -> u64;
     fn ids(&self, map: &[u8], part: Part) -> u64;
     fn step_bounded(&self, map: &[u8], part: Part, kind: u64, most: usize, out: &mut [u8]) -> u64;
+    fn packed_size(&self, map: &[u8], limits: Limits, out: &mut [u8]) -> u64;
+    fn pack(&self, map: &[u8], limits: Limits, to: &mut [u8], out: &mut [u8]) -> u64;
+    fn write(&self, thing: Thing, lent: Lent<'_>, to: &mut [u8], out: &mut [u8]) -> u64;
 
     /// The cursor for the next call: past an item, at the end, and after a refusal the one given.
     fn cursor(&self, _map: &[u8], part: Part, _kind: u64, record: Record) -> usize {
@@ -407,6 +513,74 @@ impl Reader for Exports {
                 out.as_mut_ptr(),
                 out.len(),
             )
+        }
+    }
+
+    fn packed_size(&self, map: &[u8], limits: Limits, out: &mut [u8]) -> u64 {
+        let Limits { annotations, depth } = limits;
+        let (at, room) = (out.as_mut_ptr(), out.len());
+        unsafe {
+            exported::ion_map_packed_size(map.as_ptr(), map.len(), annotations, depth, at, room)
+        }
+    }
+
+    fn pack(&self, map: &[u8], limits: Limits, to: &mut [u8], out: &mut [u8]) -> u64 {
+        unsafe {
+            exported::ion_map_pack(
+                map.as_ptr(),
+                map.len(),
+                limits.annotations,
+                limits.depth,
+                to.as_mut_ptr(),
+                to.len(),
+                out.as_mut_ptr(),
+                out.len(),
+            )
+        }
+    }
+
+    fn write(&self, thing: Thing, lent: Lent<'_>, to: &mut [u8], out: &mut [u8]) -> u64 {
+        let (to, to_room) = (to.as_mut_ptr(), to.len());
+        let (out, room) = (out.as_mut_ptr(), out.len());
+        let (first, length) = (lent.first.as_ptr(), lent.first.len());
+        let Limits { annotations, depth } = lent.limits;
+        unsafe {
+            match thing {
+                Thing::Null(code) => exported::ion_map_write_null(code, to, to_room, out, room),
+                Thing::Bool(value) => exported::ion_map_write_bool(value, to, to_room, out, room),
+                Thing::Int(negative) => {
+                    exported::ion_map_write_int(first, length, negative, to, to_room, out, room)
+                }
+                Thing::Float(bits) => exported::ion_map_write_float(bits, to, to_room, out, room),
+                Thing::Symbol(id) => exported::ion_map_write_symbol(id, to, to_room, out, room),
+                Thing::Pad(size) => exported::ion_map_write_pad(size, to, to_room, out, room),
+                Thing::Scalar(code) => {
+                    exported::ion_map_write_scalar(code, first, length, to, to_room, out, room)
+                }
+                Thing::Container(code) => exported::ion_map_write_container(
+                    code,
+                    first,
+                    length,
+                    annotations,
+                    depth,
+                    to,
+                    to_room,
+                    out,
+                    room,
+                ),
+                Thing::Wrapper => exported::ion_map_write_wrapper(
+                    first,
+                    length,
+                    lent.value.as_ptr(),
+                    lent.value.len(),
+                    annotations,
+                    depth,
+                    to,
+                    to_room,
+                    out,
+                    room,
+                ),
+            }
         }
     }
 }

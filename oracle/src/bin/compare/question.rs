@@ -28,9 +28,11 @@ pub enum Entry {
     Decimal,
     Bounded,
     Check,
+    PackedSize,
+    Pack,
 }
 
-pub const ENTRIES: [Entry; 10] = [
+pub const ENTRIES: [Entry; 12] = [
     Entry::Step,
     Entry::Steps,
     Entry::Annotation,
@@ -41,7 +43,27 @@ pub const ENTRIES: [Entry; 10] = [
     Entry::Decimal,
     Entry::Bounded,
     Entry::Check,
+    Entry::PackedSize,
+    Entry::Pack,
 ];
+
+/// What is written. Types, bools and signs are the caller's numbers, also those that are refused.
+#[derive(Clone, Copy, Debug, PartialEq)]
+pub enum Thing {
+    Null(usize),
+    Bool(u64),
+    /// Its sign; the magnitude is lent.
+    Int(u64),
+    Float(u64),
+    Symbol(u64),
+    Pad(usize),
+    /// A type by its representation, which is lent.
+    Scalar(usize),
+    /// A type around a body, which is lent.
+    Container(usize),
+    /// Annotation bytes around a value; both are lent, one behind the other.
+    Wrapper,
+}
 
 #[derive(Clone, Copy, Debug, PartialEq)]
 pub enum Ask {
@@ -64,6 +86,10 @@ pub enum Ask {
     Walked(u64),
     /// Whether the part is accepted as a map, and what it holds.
     Check,
+    /// The part as a map, packed.
+    Pack,
+    /// This thing, of the part's bytes; a wrapper's value begins at the position.
+    Write(Thing),
     /// How many field IDs the struct step begins to read.
     Ids,
     /// Steps by these rules past so many pads at most, until an end or a refusal, and once more.
@@ -79,7 +105,7 @@ pub struct Question {
 }
 
 /// What is counted apart, in the order of the report.
-pub const KINDS: [&str; 21] = [
+pub const KINDS: [&str; 23] = [
     "runs of stream steps",
     "runs of sequence steps",
     "runs of struct steps",
@@ -101,7 +127,37 @@ pub const KINDS: [&str; 21] = [
     "runs of bounded steps",
     "no pads allowed (67)",
     "whole maps, checked and counted",
+    "whole maps, packed",
+    "values and pads, written and read back",
 ];
+
+impl Thing {
+    /// Whether it is one of those that are written: all else is refusal 50.
+    pub fn is_known(self) -> bool {
+        match self {
+            Thing::Null(code) => code <= 13,
+            Thing::Bool(number) | Thing::Int(number) => number <= 1,
+            Thing::Scalar(code) => matches!(code, 5 | 6 | 8..=10),
+            Thing::Container(code) => matches!(code, 11..=13),
+            Thing::Float(_) | Thing::Symbol(_) | Thing::Pad(_) | Thing::Wrapper => true,
+        }
+    }
+
+    /// Its function, and the check of what is to be written.
+    fn needs(self) -> &'static [&'static str] {
+        match self {
+            Thing::Null(_) => &["ion_map_write_null", "ion_map_check"],
+            Thing::Bool(_) => &["ion_map_write_bool", "ion_map_check"],
+            Thing::Int(_) => &["ion_map_write_int", "ion_map_check"],
+            Thing::Float(_) => &["ion_map_write_float", "ion_map_check"],
+            Thing::Symbol(_) => &["ion_map_write_symbol", "ion_map_check"],
+            Thing::Pad(_) => &["ion_map_write_pad", "ion_map_check"],
+            Thing::Scalar(_) => &["ion_map_write_scalar", "ion_map_check"],
+            Thing::Container(_) => &["ion_map_write_container", "ion_map_check"],
+            Thing::Wrapper => &["ion_map_write_wrapper", "ion_map_check"],
+        }
+    }
+}
 
 impl Question {
     pub fn new(ask: Ask, part: Part) -> Self {
@@ -128,6 +184,8 @@ impl Question {
             Ask::Bounded(_, 0) => 19,
             Ask::Bounded(..) => 18,
             Ask::Check => 20,
+            Ask::Pack => 21,
+            Ask::Write(_) => 22,
         }
     }
 
@@ -145,6 +203,10 @@ impl Question {
             Ask::Walk => &["ion_map_step", "ion_map_step_in"],
             Ask::Walked(_) => &["ion_map_walked"],
             Ask::Check | Ask::Short(Entry::Check, _) => &["ion_map_check"],
+            Ask::Pack => &["ion_map_packed_size", "ion_map_pack", "ion_map_check"],
+            Ask::Short(Entry::PackedSize, _) => &["ion_map_packed_size"],
+            Ask::Short(Entry::Pack, _) => &["ion_map_pack"],
+            Ask::Write(thing) => thing.needs(),
             Ask::Ids => &["ion_map_ids"],
             Ask::Bounded(..) | Ask::Short(Entry::Bounded, _) => &["ion_map_step_bounded"],
             Ask::Short(Entry::Steps, _) => &["ion_map_steps"],
@@ -165,7 +227,9 @@ impl Question {
         );
         match self.ask {
             Ask::Annotations | Ask::Number(..) | Ask::Decimal => false,
-            Ask::Walk | Ask::Walked(_) | Ask::Check => is_many || is_deep,
+            Ask::Walk | Ask::Walked(_) | Ask::Check | Ask::Pack => is_many || is_deep,
+            Ask::Write(Thing::Container(_) | Thing::Wrapper) => is_many || is_deep,
+            Ask::Write(_) => false,
             _ => is_many,
         }
     }
@@ -179,6 +243,7 @@ impl Question {
         let is_known = match self.ask {
             Ask::Run(rules) | Ask::Batch(rules, _) | Ask::Bounded(rules, _) => rules <= STRUCT,
             Ask::Number(form, _) => form <= INT,
+            Ask::Write(thing) => thing.is_known(),
             _ => true,
         };
         !is_known || !part.is_inside(map)
@@ -224,6 +289,8 @@ impl fmt::Display for Ask {
             Ask::Walk => write!(f, "walk"),
             Ask::Walked(most) => write!(f, "items of {most} calls of the walk"),
             Ask::Check => write!(f, "check"),
+            Ask::Pack => write!(f, "pack"),
+            Ask::Write(thing) => write!(f, "write {thing:?}"),
             Ask::Ids => write!(f, "field IDs begun"),
             Ask::Bounded(rules, most) => write!(f, "steps of kind {rules} past {most} pads"),
             Ask::Short(entry, room) => write!(f, "{entry:?} into {room} bytes"),

@@ -2,7 +2,7 @@
 
 use crate::judge::{Judge, Verdict};
 use crate::ours::{Part, Reader, RECORD};
-use crate::question::{Ask, Question};
+use crate::question::{Ask, Question, Thing};
 use crate::session::Case;
 use std::panic::{catch_unwind, AssertUnwindSafe};
 
@@ -137,6 +137,10 @@ fn with_less_asked(case: &Case) -> impl Iterator<Item = Case> + '_ {
         Ask::Bounded(rules, most) => {
             let lower = 0..most.min(64);
             lower.map(|most| Ask::Bounded(rules, most)).collect()
+        }
+        Ask::Write(Thing::Pad(size)) => {
+            let sizes = 0..size.min(64);
+            sizes.map(|size| Ask::Write(Thing::Pad(size))).collect()
         }
         _ => Vec::new(),
     };

@@ -2,10 +2,10 @@
 //! changed, as a reader that makes this mistake would answer.
 
 use crate::expected::{inside_wrapper, var_uint};
-use crate::ours::{words_of, CHECK, CHECK_WORDS};
+use crate::ours::{words_of, Lent, CHECK, CHECK_WORDS};
 use crate::ours::{Exports, Part, Reader, Record, ANNOTATIONS, DEPTHS, RECORD, WORD, WORDS};
 use crate::pads::Pads;
-use crate::question::{INT, SEQUENCE, STREAM, STRUCT, VAR_INT};
+use crate::question::{Thing, INT, SEQUENCE, STREAM, STRUCT, VAR_INT};
 use crate::walking::Walk;
 use oracle::asking::{Limits, Line};
 use std::cell::Cell;
@@ -163,6 +163,18 @@ mistakes! {
     CheckBools "doesn't read the bools of a checked map"
     CheckKept "leaves counts in the record of a refused check"
     CheckPosition "puts the refusal of a check at the start of the map"
+    // Packed maps.
+    PackNulls "packs the null 3F as 2F"
+    PackOrderLost "packs a short ordered struct as one that isn't ordered"
+    PackRoomFirst "says 69 of a map that isn't accepted"
+    PackPartly "packs as far as there is room"
+    // Written values.
+    WritePadWide "writes a pad of 15 with a length of two bytes"
+    WriteNan "sets the quiet bit of a NaN that is written"
+    WriteZeros "keeps the leading zeros of an int that is written"
+    WriteOrdered "judges a struct's body of one byte behind D1"
+    WriteInWritten "counts the position of a refused representation in what would be written"
+    WriteRoomFirst "says 70 of what the check refuses"
     // The limits.
     LimitOf255 "tests 255 bytes of annotations by whichever limit"
     LimitOf254 "takes 254 as a limit of annotations"
@@ -1036,6 +1048,94 @@ impl Reader for Wrong {
                 _ => Exports.step_bounded(map, part, kind, most, out),
             }
         })
+    }
+
+    fn packed_size(&self, map: &[u8], limits: Limits, out: &mut [u8]) -> u64 {
+        Exports.packed_size(map, limits, out)
+    }
+
+    fn pack(&self, map: &[u8], limits: Limits, to: &mut [u8], out: &mut [u8]) -> u64 {
+        let returned = Exports.pack(map, limits, to, out);
+        if returned == 51 || returned == 68 {
+            return returned;
+        }
+        match (self.mistake, returned) {
+            (Mistake::PackNulls, 0) => {
+                let size = Record::read(out).0[3] as usize;
+                for line in lines(&to[..size], limits) {
+                    match line {
+                        Line::Value { descriptor, .. } if to[descriptor] == 0x3F => to[descriptor] = 0x2F,
+                        _ => {}
+                    }
+                }
+                returned
+            }
+            (Mistake::PackOrderLost, 0) => {
+                let size = Record::read(out).0[3] as usize;
+                let ordered = lines(&to[..size], limits).into_iter().find_map(|line| match line {
+                    Line::Value {
+                        depth: 0,
+                        start,
+                        descriptor,
+                        body,
+                        end,
+                        ..
+                    } if start == descriptor && to[start] == 0xD1 && end - body < 14 => Some((start, body, end)),
+                    _ => None,
+                });
+                let Some((start, body, end)) = ordered else {
+                    return returned;
+                };
+                to[start] = 0xD0 | (end - body) as u8;
+                to.copy_within(body..size, start + 1);
+                put(out, [16, 0, 0, (size + start + 1 - body) as u64, 0, 0, 0, 0, 0])
+            }
+            (Mistake::PackRoomFirst, 1..=63) if to.is_empty() => refuse(out, 69, map.len()),
+            (Mistake::PackPartly, 69) => {
+                let mut all = vec![0; Record::read(out).0[2] as usize];
+                Exports.pack(map, limits, &mut all, &mut [0; RECORD]);
+                to.copy_from_slice(&all[..to.len()]);
+                returned
+            }
+            _ => returned,
+        }
+    }
+
+    fn write(&self, thing: Thing, lent: Lent<'_>, to: &mut [u8], out: &mut [u8]) -> u64 {
+        let thing = match (self.mistake, thing) {
+            (Mistake::WriteNan, Thing::Float(bits)) if f64::from_bits(bits).is_nan() => {
+                Thing::Float(bits | 1 << 51)
+            }
+            _ => thing,
+        };
+        let returned = Exports.write(thing, lent, to, out);
+        if out.len() < RECORD {
+            return returned;
+        }
+        match (self.mistake, thing, returned) {
+            (Mistake::WritePadWide, Thing::Pad(15), 0) => to[..3].copy_from_slice(&[0x0E, 0x00, 0x8C]),
+            (Mistake::WriteZeros, Thing::Int(0), 0) => {
+                let size = lent.first.len();
+                let is_zero_first = lent.first.first() == Some(&0);
+                if is_zero_first && size < 14 && to.len() > size {
+                    to[0] = 0x20 | size as u8;
+                    to[1..=size].copy_from_slice(lent.first);
+                    put(out, [17, 0, 0, size as u64 + 1, 0, 0, 0, 0, 0]);
+                }
+            }
+            (Mistake::WriteOrdered, Thing::Container(13), 7) if lent.first.len() == 1 => {
+                return refuse(out, 8, 0);
+            }
+            (Mistake::WriteInWritten, Thing::Scalar(_), 3 | 4 | 20) => {
+                let position = Record::read(out).0[2] as usize;
+                return refuse(out, returned, position + 1);
+            }
+            (Mistake::WriteRoomFirst, _, 1..=49) if to.is_empty() => {
+                return refuse(out, 70, lent.first.len() + 1);
+            }
+            _ => {}
+        }
+        returned
     }
 
     fn cursor(&self, map: &[u8], part: Part, kind: u64, record: Record) -> usize {
