@@ -35,12 +35,12 @@ unfolding significant
 significant-few [] = omega arith
 significant-few (b ∷ bs) = by-test (λ (l : List ℕ). length l ≤ length (b ∷ bs)) (eqb b 0) (λ _. omega (arith, significant-few bs)) (λ _. omega arith)
 
-float-size : (bits : ℕ) → (length (floatBody bits) ≡ 0) ⊎ (length (floatBody bits) ≡ 4) ⊎ (length (floatBody bits) ≡ 8)
+pub float-size : (bits : ℕ) → (length (floatBody bits) ≡ 0) ⊎ (length (floatBody bits) ≡ 4) ⊎ (length (floatBody bits) ≡ 8)
 unfolding floatBody
 float-size bits =
     by-test (λ (l : List ℕ). (length l ≡ 0) ⊎ (length l ≡ 4) ⊎ (length l ≡ 8)) (eqb bits 0) (λ _. inl refl) (λ _. inr (inr (uint-written 8 bits .size)))
 
-float-few : (bits : ℕ) → length (floatBody bits) ≤ 8
+pub float-few : (bits : ℕ) → length (floatBody bits) ≤ 8
 unfolding floatBody
 float-few bits = by-test (λ (l : List ℕ). length l ≤ 8) (eqb bits 0) (λ _. omega arith) (λ _. omega (arith, uint-written 8 bits .size))
 
@@ -78,11 +78,11 @@ stamp-long type body h e =
     (λ q. absurd (true≢false (let r : shortTimestamp type 0 (length body) ≡ true = rw (eq-eqb type 6 e, q) in sym r ∙ refuse-gives (shortTimestamp type 0 (length body)) 31 0 h .0)))
     (λ q. ltb-false (length body) 2 q)
 
-sign-low : (b : Bool) → 2 ≤ intType b
+pub sign-low : (b : Bool) → 2 ≤ intType b
 sign-low true = omega arith
 sign-low false = omega arith
 
-sign-high : (b : Bool) → intType b ≤ 3
+pub sign-high : (b : Bool) → intType b ≤ 3
 sign-high true = omega arith
 sign-high false = omega arith
 

@@ -56,11 +56,11 @@ module _ (limit : ℕ) (s : List ℕ) (g : outOfRange limit ≡ false) where
       rw (g, inside s 0 (length s) (omega arith) (omega arith), e, lt-ltb 0 (length s) h, ne-eqb (getD s 0 0) 224 n, q)
 
   -- at the end nothing is left
-  full-end : (rules : Rules) (room hi : ℕ) (c : List ℕ) → full limit s rules room hi hi c ≡ gives c
+  pub full-end : (rules : Rules) (room hi : ℕ) (c : List ℕ) → full limit s rules room hi hi c ≡ gives c
   unfolding full partCheck
   full-end rules room hi c = let z : hi - hi ≡ 0 = omega arith in rw z
 
-  then-given : (o : Outcome (List ℕ)) (k : List ℕ → Outcome (List ℕ)) → ((c : List ℕ) → k c ≡ gives c) → andThen o k ≡ o
+  pub then-given : (o : Outcome (List ℕ)) (k : List ℕ → Outcome (List ℕ)) → ((c : List ℕ) → k c ≡ gives c) → andThen o k ≡ o
   then-given (gives c) k h = h c
   then-given (refuses n p) k h = refl
 
@@ -94,7 +94,7 @@ unfolding valueCheck readItem
 value-inside s P deepest type n c h d =
     rw (ids-none s 0 0 (omega arith), content-done s type n h, container-is type n h, le-ltb deepest 1 d, rules-are type n)
 
-counted-is : (n : ℕ) {A : Type 0} {o : Outcome A} {o' : Outcome (List ℕ)} → Counted n o o' → andThen o asDone ≡ countedFrom n o'
+pub counted-is : (n : ℕ) {A : Type 0} {o : Outcome A} {o' : Outcome (List ℕ)} → Counted n o o' → andThen o asDone ≡ countedFrom n o'
 counted-is n both-give = refl
 counted-is n (both-refuse {number = k} e) = ap (refuses k) (sym e)
 

@@ -13,3 +13,5 @@ pub mod ScalarsBack
 pub mod WrappersBack
 pub mod Judging
 pub mod ScalarsJudged
+pub mod BareJudged
+pub mod WrappersJudged

@@ -4,14 +4,14 @@ use Prim.Native.Nat.{ℕ, _+_, _-_, _*_, _/_, _%_, _≤_, _<_}
 use native.Mathlib.Omega.{arith}
 use borrow.Author.Tests.{ltb-true, ltb-false, eqb-true, eqb-false}
 use mathlib.Core.Path.{_≡_, refl, sym, subst}
-use mathlib.Core.Bool.{true, false}
+use mathlib.Core.Bool.{Bool, true, false}
 use mathlib.Core.Logic.{inr}
 use mathlib.Core.List.{List, [], _∷_}
 use lib.ListN.{getD}
 use lib.Dec.{ltb, eqb}
 use Rattle.numbers.specs.Outcome.{pick, gives}
 use Rattle.numbers.proofs.Outcomes.{by-test, by-case}
-use Rattle.framing.specs.Answers.{readValue}
+use Rattle.framing.specs.Answers.{readValue, readFrame, valued}
 use Rattle.framing.specs.Format.{ValueType, typed, null-null, ValueLength, none, null, Legal, plain}
 use Rattle.framing.specs.ShortValue.{bareSpans}
 use Rattle.framing.proofs.Completeness.{values-complete}
@@ -26,7 +26,7 @@ record Alone (byte : ℕ) : Type 0 where
   field : (s : List ℕ) (at end : ℕ) → ValueLength s at end at (byte / 16) (byte % 16) 0
   legal : Legal (byte / 16) (byte % 16) 0
 
-alone-back : (limit : ℕ) (s : List ℕ) (at end byte : ℕ) → Alone byte → StandsAt s at end (byte ∷ []) → readValue limit s at end ≡ gives (bareSpans byte at (at + 1) (at + 1))
+alone-back : (limit : ℕ) (s : List ℕ) (at end byte : ℕ) → Alone byte → StandsAt s at end (byte ∷ []) → (readValue limit s at end ≡ gives (bareSpans byte at (at + 1) (at + 1))) × (readFrame limit s at end ≡ gives (valued (bareSpans byte at (at + 1) (at + 1))))
 alone-back limit s at end byte a b =
     let e : getD s at 0 ≡ byte = stands-byte byte [] b in
     let m : at + 1 - (at + 1) ≡ 0 = omega arith in
@@ -45,7 +45,7 @@ alone-back limit s at end byte a b =
       fits = omega (arith, b .fits);
       within = b .within;
     }))
-    (omega arith) .0
+    (omega arith)
 
 -- a null of the type code t
 null-alone : (t : ℕ) → t ≤ 13 → Alone (t * 16 + 15)
@@ -61,9 +61,13 @@ null-alone t h =
 null-low : (type : ℕ) → type ≤ 13 → pick (eqb type 3) 2 type ≤ 13
 null-low type h = by-test (λ (k : ℕ). k ≤ 13) (eqb type 3) (λ _. omega arith) (λ _. h)
 
-pub nulls-back : NullsBack
+-- as a value and as what a step frames
+pub null-framed : (limit type : ℕ) → type ≤ 13 → (s : List ℕ) (at end : ℕ) → StandsAt s at end (nullByte type ∷ []) → (readValue limit s at end ≡ gives (bareSpans (nullByte type) at (at + 1) (at + 1))) × (readFrame limit s at end ≡ gives (valued (bareSpans (nullByte type) at (at + 1) (at + 1))))
 unfolding nullByte
-nulls-back limit type h s at end b = alone-back limit s at end (pick (eqb type 3) 2 type * 16 + 15) (null-alone (pick (eqb type 3) 2 type) (null-low type h)) b
+null-framed limit type h s at end b = alone-back limit s at end (pick (eqb type 3) 2 type * 16 + 15) (null-alone (pick (eqb type 3) 2 type) (null-low type h)) b
+
+pub nulls-back : NullsBack
+nulls-back limit type h s at end b = null-framed limit type h s at end b .0
 
 bool-alone : (code : ℕ) → code < 2 → Alone (16 + code)
 bool-alone code h =
@@ -75,7 +79,10 @@ bool-alone code h =
       legal = rw (x, y) (record { float = λ e. absurd (omega arith); timestamp = λ e _. absurd (omega arith); ordered = λ e _. absurd (omega arith) });
     }
 
-pub bools-back : BoolsBack
+pub bool-framed : (limit : ℕ) (value : Bool) (s : List ℕ) (at end : ℕ) → StandsAt s at end (boolByte value ∷ []) → (readValue limit s at end ≡ gives (bareSpans (boolByte value) at (at + 1) (at + 1))) × (readFrame limit s at end ≡ gives (valued (bareSpans (boolByte value) at (at + 1) (at + 1))))
 unfolding boolByte
-bools-back limit true s at end b = alone-back limit s at end 17 (bool-alone 1 (omega arith)) b
-bools-back limit false s at end b = alone-back limit s at end 16 (bool-alone 0 (omega arith)) b
+bool-framed limit true s at end b = alone-back limit s at end 17 (bool-alone 1 (omega arith)) b
+bool-framed limit false s at end b = alone-back limit s at end 16 (bool-alone 0 (omega arith)) b
+
+pub bools-back : BoolsBack
+bools-back limit value s at end b = bool-framed limit value s at end b .0

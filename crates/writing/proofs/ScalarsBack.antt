@@ -61,7 +61,7 @@ module _ (limit : ℕ) (s : List ℕ) (start end at type n : ℕ) (g : outOfRang
 
 -- ---- numbers
 
-lead : (m : List ℕ) → 0 < length (significant m) → getD (significant m) 0 0 ≡ 0 → ⊥
+pub lead : (m : List ℕ) → 0 < length (significant m) → getD (significant m) 0 0 ≡ 0 → ⊥
 unfolding significant
 lead [] = λ h e. absurd (omega arith)
 lead (b ∷ bs) = by-test (λ (l : List ℕ). 0 < length l → getD l 0 0 ≡ 0 → ⊥) (eqb b 0) (λ _. lead bs) (λ q _ e. eqb-false b 0 q e)
@@ -80,7 +80,7 @@ module _ (s : List ℕ) (b : ℕ) (body : List ℕ) (k : b + length body ≤ len
       let z : b + 0 ≡ b = omega arith in
       ap (λ (i : ℕ). getD s i 0) (sym z) ∙ sym (part-at s b (b + length body) 0 (omega arith)) ∙ ap (λ (l : List ℕ). getD l 0 0) same
 
-  first-is : (0 < length body → getD body 0 0 ≡ 0 → ⊥) → significantFrom s b (b + length body) ≡ b
+  pub first-is : (0 < length body → getD body 0 0 ≡ 0 → ⊥) → significantFrom s b (b + length body) ≡ b
   first-is n =
       significant-one s b (b + length body) (omega arith) k
       (record { low = omega arith; high = omega arith; zeros = λ i x y. absurd (omega arith); here = λ l z. n (omega arith) (sym (starts (omega arith)) ∙ z); worth = refl })
@@ -107,7 +107,7 @@ stood limit deepest {thing} {type} {body} k h s at end b =
     let f : FramedBack limit s at end type body = values-back limit deepest thing type body k h s at end b in
     record { framed = f .framed; fits = omega (arith, b .fits, b .within, typed-of k); bytes = f .bytes }
 
-size-is : (at n : ℕ) → bodyAt at n + n - bodyAt at n ≡ n
+pub size-is : (at n : ℕ) → bodyAt at n + n - bodyAt at n ≡ n
 size-is at n = omega arith
 
 record Body (type : ℕ) : Type 0 where
@@ -123,7 +123,7 @@ body-type type =
     record { low = ltb-false type 5 a; high = omega (arith, ltb-true type 11 (not-false (ltb type 11) h)); other = eqb-false type 7 c }))
 
 -- a null's byte
-null-code : (type : ℕ) → nullByte type % 16 ≡ 15
+pub null-code : (type : ℕ) → nullByte type % 16 ≡ 15
 unfolding nullByte
 null-code type = omega arith
 

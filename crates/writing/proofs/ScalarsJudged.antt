@@ -67,13 +67,13 @@ byte-short (b ∷ []) h e = omega arith
 byte-short (b ∷ c ∷ bs) h e = omega arith
 
 module _ (limit : ℕ) (s : List ℕ) (g : outOfRange limit ≡ false) where
-  found-refused : (number position : ℕ) → 0 < length s → (getD s 0 0 ≡ 224 → ⊥) → readFrame limit s 0 (length s) ≡ refuses number position → found limit Stream s (cursor 0 (length s)) ≡ stop (refuses number position)
+  pub found-refused : (number position : ℕ) → 0 < length s → (getD s 0 0 ≡ 224 → ⊥) → readFrame limit s 0 (length s) ≡ refuses number position → found limit Stream s (cursor 0 (length s)) ≡ stop (refuses number position)
   unfolding found skipPads tileAt framedAt
   found-refused number position h n q =
       let e : length s - 0 ≡ suc (length s - 1) = omega arith in
       rw (g, inside s 0 (length s) (omega arith) (omega arith), e, lt-ltb 0 (length s) h, ne-eqb (getD s 0 0) 224 n, q)
 
-  whole-refused : (deepest number position : ℕ) → limitsOut limit deepest ≡ false → found limit Stream s (cursor 0 (length s)) ≡ stop (refuses number position) → wholeCheck limit deepest s ≡ refuses number position
+  pub whole-refused : (deepest number position : ℕ) → limitsOut limit deepest ≡ false → found limit Stream s (cursor 0 (length s)) ≡ stop (refuses number position) → wholeCheck limit deepest s ≡ refuses number position
   whole-refused deepest number position l f =
       sym (whole-in limit deepest s l)
       ∙ unrolled limit s g Stream deepest (length s) 0 none (omega arith) (omega arith)
@@ -89,15 +89,15 @@ byte-free body type n t =
     let y : type * 16 / 16 ≡ type = omega arith in
     rw (x, y, head-code type n, code-known n, head-type type n, ne-eqb type 1 (omega (arith, t .low)))
 
-container-not : (type n : ℕ) → type ≤ 10 → isContainer (typedSpans type 0 n) ≡ false
+pub container-not : (type n : ℕ) → type ≤ 10 → isContainer (typedSpans type 0 n) ≡ false
 unfolding isContainer
 container-not type n h = rw (head-code type n, code-known n, head-type type n, le-ltb 10 type h)
 
-value-read : (s : List ℕ) (P : Parts) (deepest type n : ℕ) (c : List ℕ) → type ≤ 10 → valueCheck s P deepest (typedSpans type 0 n) c ≡ andThen (readContent s (typedSpans type 0 n)) (insideOf P deepest (typedSpans type 0 n) c)
+pub value-read : (s : List ℕ) (P : Parts) (deepest byte body end : ℕ) (c : List ℕ) → valueCheck s P deepest (bareSpans byte 0 body end) c ≡ andThen (readContent s (bareSpans byte 0 body end)) (insideOf P deepest (bareSpans byte 0 body end) c)
 unfolding valueCheck readItem
-value-read s P deepest type n c h = rw (ids-none s 0 0 (omega arith))
+value-read s P deepest byte body end c = rw (ids-none s 0 0 (omega arith))
 
-counted-done : (n : ℕ) (P : Parts) (deepest : ℕ) (v : Spans) (c : List ℕ) {o o' : Outcome Done} → isContainer v ≡ false → Counted n o o' → o ≡ countedFrom n (andThen o' (insideOf P deepest v c))
+pub counted-done : (n : ℕ) (P : Parts) (deepest : ℕ) (v : Spans) (c : List ℕ) {o o' : Outcome Done} → isContainer v ≡ false → Counted n o o' → o ≡ countedFrom n (andThen o' (insideOf P deepest v c))
 counted-done n P deepest v c e (both-give {a = done} {b = done}) = rw e
 counted-done n P deepest v c e (both-refuse {number = k} q) = ap (refuses k) (sym q)
 
@@ -151,7 +151,7 @@ long-enough limit deepest type body l g ty t e =
     ∙ counted-done h (full limit s) deepest (typedSpans type 0 n) (counting pads 0 none) (container-not type n (ty .high)) k
     ∙ sym (ap (countedFrom h)
       (whole-value limit s g deepest (typedSpans type 0 n) l f (omega arith)
-      ∙ value-read s (full limit s) deepest type n (counting pads 0 none) (ty .high)))
+      ∙ value-read s (full limit s) deepest (headByte type n) (0 + h) (0 + h + n) (counting pads 0 none)))
 
 pub scalars-judged : JudgedScalars
 unfolding judgedScalar typedBytes

@@ -60,7 +60,7 @@ lent-of limit deepest a v h =
 
 -- ---- a value by itself
 
-inner-typed : (s : List ℕ) (at end : ℕ) → Each (TypedValue s at end) (andThen (peekedDescriptor s at end) (innerValue s at end))
+pub inner-typed : (s : List ℕ) (at end : ℕ) → Each (TypedValue s at end) (andThen (peekedDescriptor s at end) (innerValue s at end))
 unfolding innerValue
 inner-typed s at end =
     each-then (peeked-each s at end) (λ d b.
