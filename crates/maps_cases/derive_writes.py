@@ -214,7 +214,7 @@ def rooms(name, said, lent=b"", limits=()):
 
 def shorter_records(name, said, lent=b"", limits=()):
     """A buffer for the record that is too short, 51; longer ones, whose further bytes stay."""
-    return [asked(name, said, lent, 12, size, limits) for size in (0, 1, 71, 80)]
+    return [asked(name, said, lent, 12, size, limits) for size in (0, 1, 64, 71, 80)]
 
 
 # ===== The questions =====
