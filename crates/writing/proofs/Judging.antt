@@ -107,7 +107,7 @@ type-high : (type : ℕ) → not (ours.isContainer type) ≡ false → type ≤ 
 unfolding ours.isContainer
 type-high type = by-test (λ (b : Bool). not b ≡ false → type ≤ 13) (ltb type 11) (λ _ h. absurd (true≢false h)) (λ _ h. omega (arith, ltb-true type 14 (not-false (ltb type 14) h)))
 
-deep : (limit deepest : ℕ) → limitsOut limit deepest ≡ false → 1 ≤ deepest
+pub deep : (limit deepest : ℕ) → limitsOut limit deepest ≡ false → 1 ≤ deepest
 unfolding limitsOut
 deep limit deepest = by-test (λ (b : Bool). b ≡ false → 1 ≤ deepest) (outOfRange limit) (λ _ h. absurd (true≢false h)) (λ _. by-test (λ (b : Bool). b ≡ false → 1 ≤ deepest) (ltb deepest 1) (λ _ h. absurd (true≢false h)) (λ e _. ltb-false deepest 1 e))
 

@@ -15,3 +15,4 @@ pub mod Judging
 pub mod ScalarsJudged
 pub mod BareJudged
 pub mod WrappersJudged
+pub mod OneByteJudged

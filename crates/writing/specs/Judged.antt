@@ -1,12 +1,12 @@
 -- What is refused is what A.5 refuses of the thing taken as a map, to the letter: "its number is given, the position counted in the lent bytes then read .. and
 -- 0 where the reader names a descriptor still to be written". And what is written A.5 accepts. The proofs: `judged-as-a-map` and `accepted-as-a-map` of
--- proofs/Judging.antt, `scalars-judged` and `scalars-accepted` of proofs/ScalarsJudged.antt, `bare-judged` and `bare-accepted` of proofs/BareJudged.antt,
+-- proofs/Judging.antt, `one-byte-judged` of proofs/OneByteJudged.antt, `scalars-judged` and `scalars-accepted` of proofs/ScalarsJudged.antt, `bare-judged` and `bare-accepted` of proofs/BareJudged.antt,
 -- `wrappers-judged` and `wrappers-accepted` of proofs/WrappersJudged.antt.
 -- Assumes nothing.
 use Prim.Native.Nat.{ℕ, _+_, _-_}
 use mathlib.Core.Path.{_≡_}
 use mathlib.Core.Bool.{Bool, true, false}
-use mathlib.Core.List.{List}
+use mathlib.Core.List.{List, _∷_}
 use lib.ListN.{length}
 use Rattle.numbers.specs.Outcome.{Outcome, gives, refuses, pick}
 use Rattle.framing.specs.Answers.{readValue}
@@ -23,12 +23,18 @@ abbrev pub countedFrom : ℕ → Outcome (List ℕ) → Outcome Done
 countedFrom n (gives counts) = gives done
 countedFrom n (refuses number position) = refuses number (position - n)
 
--- a container around a body; of a one-byte struct body, which D1 would make an ordered struct's, "DE 81" stands before it
+-- a container around a body, but for a struct's of one byte: D1 would be an ordered struct's descriptor
 abbrev pub JudgedContainers : Type 0
 JudgedContainers =
     (limit deepest type : ℕ) (body : List ℕ) → limitsOut limit deepest ≡ false → outside (container type body) ≡ false → tooLong (container type body) ≡ false
     → (type ≡ 13 → length body ≡ 1 → ⊥)
     → judged limit deepest (container type body) ≡ countedFrom (headSize (length body)) (wholeCheck limit deepest (typedBytes type body))
+
+-- "A one-byte struct body is judged behind DE 81."
+abbrev pub JudgedOneByteStructs : Type 0
+JudgedOneByteStructs =
+    (limit deepest : ℕ) (body : List ℕ) → limitsOut limit deepest ≡ false → length body ≡ 1
+    → judged limit deepest (container 13 body) ≡ countedFrom 2 (wholeCheck limit deepest (222 ∷ 129 ∷ body))
 
 -- a decimal, a timestamp, a string, a clob or a blob
 abbrev pub JudgedScalars : Type 0
