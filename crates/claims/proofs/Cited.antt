@@ -44,7 +44,10 @@ use Rattle.writing.proofs.PadsBack.{pads-back}
 use Rattle.writing.proofs.ScalarsBack.{scalars-back, containers-back}
 use Rattle.writing.proofs.WrappersBack.{wrappers-back}
 use Rattle.writing.proofs.Judging.{judged-as-a-map, accepted-as-a-map}
+use Rattle.writing.proofs.OneByteJudged.{one-byte-judged}
 use Rattle.writing.proofs.ScalarsJudged.{scalars-judged, scalars-accepted}
+use Rattle.writing.proofs.BareJudged.{bare-judged, bare-accepted}
+use Rattle.writing.proofs.WrappersJudged.{wrappers-judged, wrappers-accepted}
 use Rattle.runs.proofs.Overwriting.{overwriting}
 use Rattle.runs.proofs.OneBody.{still-reached}
 use Rattle.runs.proofs.PartSets.{parts-are-sets}
@@ -139,9 +142,14 @@ equal =
       containersBack = containers-back;
       wrappersBack = wrappers-back;
       judgedContainers = judged-as-a-map;
+      judgedOneByteStructs = one-byte-judged;
       judgedScalars = scalars-judged;
+      judgedBare = bare-judged;
+      judgedWrappers = wrappers-judged;
       acceptedContainers = accepted-as-a-map;
       acceptedScalars = scalars-accepted;
+      acceptedBare = bare-accepted;
+      acceptedWrappers = wrappers-accepted;
       limitRange = limit-range;
       limitsRange = limits-range;
       depthBound = visit-depth;

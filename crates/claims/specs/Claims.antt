@@ -27,7 +27,8 @@ use Rattle.encoding.specs.Meaning.{VarUIntSized, VarUIntShortest, HeadShortest,
 use Rattle.packing.specs.Theorems.{PackedShort, PackedTree, PackedTwice, PackedAccepted, SameItems}
 use Rattle.writing.specs.Theorems.{ValuesBack, NullsBack, BoolsBack, PadsBack}
 use Rattle.writing.specs.Back.{ScalarsBack, ContainersBack, WrappersBack}
-use Rattle.writing.specs.Judged.{JudgedContainers, JudgedScalars, AcceptedContainers, AcceptedScalars}
+use Rattle.writing.specs.Judged.{JudgedContainers, JudgedOneByteStructs, JudgedScalars, JudgedBare, JudgedWrappers}
+use Rattle.writing.specs.Judged.{AcceptedContainers, AcceptedScalars, AcceptedBare, AcceptedWrappers}
 use Rattle.runs.specs.Theorems.{Overwriting, PartsAreSets, StillReached}
 use Rattle.runs.specs.Program.{ProgramEnds, ProgramTiling, ProgramOverwriting, ProgramOneBody}
 use Rattle.overwriting.specs.TextsStay.{TextsStay}
@@ -155,9 +156,14 @@ pub record Equal : Type 0 where
   pub containersBack : ContainersBack
   pub wrappersBack : WrappersBack
   pub judgedContainers : JudgedContainers
+  pub judgedOneByteStructs : JudgedOneByteStructs
   pub judgedScalars : JudgedScalars
+  pub judgedBare : JudgedBare
+  pub judgedWrappers : JudgedWrappers
   pub acceptedContainers : AcceptedContainers
   pub acceptedScalars : AcceptedScalars
+  pub acceptedBare : AcceptedBare
+  pub acceptedWrappers : AcceptedWrappers
   -- the limits, by the change request A.9: each theorem here is for every limit of annotation bytes and every depth. 68 is answered outside 255 to 65535 and
   -- 1 to 64, and there alone; and nothing is met deeper than the depth given.
   pub limitRange : LimitRange

@@ -1,15 +1,15 @@
 -- What is refused of a null, a bool, an int, a float, a symbol or a pad is what the check refuses of it as a map: the map's one value is framed and read. A pad is
 -- passed, and then the map ends.
 -- Assumes nothing.
-use Prim.Native.Nat.{ℕ, zero, suc, _+_, _-_, _%_, _^_, _≤_, _<_}
+use Prim.Native.Nat.{ℕ, zero, suc, _+_, _-_, _^_, _≤_, _<_}
 use native.Mathlib.Omega.{arith}
 use borrow.Author.Tests.{lt-ltb, le-ltb, ltb-true, ltb-false, eqb-true, eqb-false, eq-eqb, ne-eqb}
 use mathlib.Core.Path.{_≡_, refl, _∙_, sym, ap, subst}
 use mathlib.Core.Bool.{Bool, true, false}
 use mathlib.Core.List.{List, [], _∷_, _++_}
-use lib.ListN.{length, getD, replicate}
+use lib.ListN.{length, getD}
 use lib.Dec.{ltb, eqb}
-use Rattle.numbers.specs.Outcome.{Outcome, gives, refuses, refuseIf, andThen}
+use Rattle.numbers.specs.Outcome.{Outcome, gives, refuses, andThen}
 use Rattle.numbers.proofs.Outcomes.{by-test, by-case, inside}
 use Rattle.framing.specs.Limits.{outOfRange}
 use Rattle.framing.specs.Answers.{padding, valued, readFrame}
@@ -28,15 +28,14 @@ use Rattle.checking.specs.Reading.{Done, done, readBody, readContent}
 use Rattle.checking.specs.Check.{onFound, wholeCheck}
 use Rattle.checking.specs.Private.Whole.{full}
 use Rattle.checking.proofs.Unrolled.{unrolled, whole-in}
-use Rattle.encoding.specs.Fields.{varUIntIn}
 use Rattle.encoding.specs.Heads.{headBytes, headByte, headSize, typedBytes, typedSpans}
 use Rattle.encoding.specs.Meaning.{StandsAt, Writable}
 use Rattle.encoding.proofs.Heads.{head-type, head-code, head-some, head-length, typed-length, typed-back}
 use Rattle.encoding.proofs.Standing.{stands-rest}
-use Rattle.writing.specs.Things.{Thing, pad, intType, significant, floatBody, symbolBody, nullByte, boolByte, padField, padBytes, written}
-use Rattle.writing.specs.Answers.{judgedInt, noPad, judged}
+use Rattle.writing.specs.Things.{intType, significant, floatBody, symbolBody, nullByte, boolByte, padField, padBytes, written}
+use Rattle.writing.specs.Answers.{judgedInt, noPad}
 use Rattle.writing.specs.Theorems.{PadBack}
-use Rattle.writing.specs.Judged.{countedFrom, Bare, a-null, a-bool, an-int, a-float, a-symbol, a-pad, JudgedBare, AcceptedBare}
+use Rattle.writing.specs.Judged.{countedFrom, a-null, a-bool, an-int, a-float, a-symbol, a-pad, JudgedBare, AcceptedBare}
 use Rattle.writing.proofs.Lengths.{not-past}
 use Rattle.writing.proofs.Pads.{pad-some, pad-short, pad-long}
 use Rattle.writing.proofs.PadsBack.{pads-back}
@@ -121,8 +120,8 @@ module _ (limit deepest : ℕ) (l : limitsOut limit deepest ≡ false) where
       let c : List ℕ = counting pads 0 none in
       counted-done 0 (full limit s) deepest (bareSpans byte 0 body end) c single (same-counted (readContent s (bareSpans byte 0 body end)))
       ∙ sym (ap (countedFrom 0)
-        (whole-value limit s g deepest (bareSpans byte 0 body end) l (found-value limit s g (bareSpans byte 0 body end) some other frame) e
-        ∙ value-read s (full limit s) deepest byte body end c))
+      (whole-value limit s g deepest (bareSpans byte 0 body end) l (found-value limit s g (bareSpans byte 0 body end) some other frame) e
+      ∙ value-read s (full limit s) deepest byte body end c))
 
   typed-judged : (type : ℕ) (body : List ℕ) → Writable type (length body) → type ≤ 10 → readContent (typedBytes type body) (typedSpans type 0 (length body)) ≡ countedFrom 0 (wholeCheck limit deepest (typedBytes type body))
   typed-judged type body w h =
@@ -183,7 +182,7 @@ bare-judged limit deepest thing (a-null {type = type}) l i t =
     let s : List ℕ = nullByte type ∷ [] in
     sym (null-read s type 1 1)
     ∙ value-judged limit deepest l s (nullByte type) 1 1 (omega arith) (λ e. absurd (omega (arith, null-code type)))
-      (null-framed limit type (ltb-false 13 type i) s 0 1 (stands-whole s) .1) refl (null-single type 1 1)
+    (null-framed limit type (ltb-false 13 type i) s 0 1 (stands-whole s) .1) refl (null-single type 1 1)
 bare-judged limit deepest thing (a-bool {value = value}) l i t =
     let s : List ℕ = boolByte value ∷ [] in
     sym (bool-read s value 1 1)

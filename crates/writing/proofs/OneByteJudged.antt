@@ -6,7 +6,6 @@ use borrow.Author.Tests.{le-ltb}
 use mathlib.Core.Path.{_≡_, refl, _∙_, sym, ap}
 use mathlib.Core.Bool.{false}
 use mathlib.Core.List.{List, [], _∷_}
-use lib.ListN.{length}
 use Rattle.numbers.specs.Outcome.{gives, outsideOf}
 use Rattle.numbers.specs.Format.{ofDigits, varUIntOf}
 use Rattle.numbers.specs.Answers.{lastAmong, lastByte, varNumber, varUInt}
@@ -17,7 +16,6 @@ use Rattle.framing.specs.Answers.{peekedDescriptor, lengthAt, valueCode, badFlo
 use Rattle.framing.specs.ShortValue.{bareSpans}
 use Rattle.stepping.specs.declared.cursor.Rules.the-variants.{Fields}
 use Rattle.values.specs.Scalars.{isContainer, scalarOf, typedOf}
-use Rattle.walking.specs.Walk.{limitsOut}
 use Rattle.walking.proofs.Depths.{in-limit}
 use Rattle.checking.specs.Counts.{none, pads, placeOf, counting}
 use Rattle.checking.specs.Reading.{readContent, readItem}
@@ -53,5 +51,5 @@ one-byte-judged limit deepest (b ∷ []) l e =
     counted-is 2
     (part-counted limit (b ∷ []) s 2 0 1 g (omega arith) (omega arith) (λ i _ q. let z : i ≡ 0 = omega arith in rw z) 1 Fields (deepest - 1) 1 0 none (counting (placeOf struct) 1 c) (omega arith) (omega arith) (omega arith))
     ∙ sym (ap (countedFrom 2)
-      (whole-value limit s g deepest struct l (found-value limit s g struct (omega arith) (λ q. absurd (omega arith)) (struct-framed limit b)) refl
-      ∙ struct-inside s (full limit s) deepest c (deep limit deepest l)))
+    (whole-value limit s g deepest struct l (found-value limit s g struct (omega arith) (λ q. absurd (omega arith)) (struct-framed limit b)) refl
+    ∙ struct-inside s (full limit s) deepest c (deep limit deepest l)))

@@ -1,15 +1,15 @@
 -- What is refused of a scalar that is given as a body is what the check refuses of it as a map: the map's one value is framed, unless it is a timestamp under two
 -- bytes, and its body is read as it is by itself.
 -- Assumes nothing.
-use Prim.Native.Nat.{ℕ, zero, suc, _+_, _-_, _*_, _/_, _%_, _≤_, _<_}
+use Prim.Native.Nat.{ℕ, suc, _+_, _-_, _*_, _/_, _%_, _≤_, _<_}
 use native.Mathlib.Omega.{arith}
-use borrow.Author.Tests.{lt-ltb, le-ltb, ltb-true, ltb-false, eqb-true, eqb-false, eq-eqb, ne-eqb, not-false}
+use borrow.Author.Tests.{lt-ltb, le-ltb, ltb-true, ltb-false, eqb-true, eq-eqb, ne-eqb, not-false}
 use mathlib.Core.Path.{_≡_, refl, _∙_, sym, ap, subst}
 use mathlib.Core.Bool.{Bool, true, false, not, true≢false}
 use mathlib.Core.List.{List, [], _∷_, _++_}
 use lib.ListN.{length, getD}
 use lib.Dec.{ltb, eqb}
-use Rattle.numbers.specs.Outcome.{Outcome, gives, refuses, pick, refuseIf, andThen, outsideOf}
+use Rattle.numbers.specs.Outcome.{Outcome, gives, refuses, andThen, outsideOf}
 use Rattle.numbers.specs.Descriptor.{descriptorOf, kindOf}
 use Rattle.numbers.proofs.Outcomes.{by-test, by-case, inside}
 use Rattle.framing.specs.Limits.{outOfRange}
@@ -24,8 +24,8 @@ use Rattle.stepping.specs.declared.cursor.Rules.the-variants.{Stream}
 use Rattle.values.specs.Scalars.{isContainer, scalarOf, typedOf, positiveOf, negativeOf, floatOf, symbolOf, stringOf}
 use Rattle.walking.specs.Walk.{limitsOut}
 use Rattle.walking.proofs.Depths.{in-limit}
-use Rattle.checking.specs.Counts.{none, pads, placeOf, counting}
-use Rattle.checking.specs.Reading.{Done, done, readBody, readContent, readItem}
+use Rattle.checking.specs.Counts.{none, pads, counting}
+use Rattle.checking.specs.Reading.{Done, done, readContent, readItem}
 use Rattle.checking.specs.Check.{Parts, insideOf, valueCheck, onFound, wholeCheck}
 use Rattle.checking.specs.Private.Whole.{full}
 use Rattle.checking.proofs.Ids.{ids-none}
@@ -150,8 +150,8 @@ long-enough limit deepest type body l g ty t e =
     byte-free body type n ty
     ∙ counted-done h (full limit s) deepest (typedSpans type 0 n) (counting pads 0 none) (container-not type n (ty .high)) k
     ∙ sym (ap (countedFrom h)
-      (whole-value limit s g deepest (typedSpans type 0 n) l f (omega arith)
-      ∙ value-read s (full limit s) deepest (headByte type n) (0 + h) (0 + h + n) (counting pads 0 none)))
+    (whole-value limit s g deepest (typedSpans type 0 n) l f (omega arith)
+    ∙ value-read s (full limit s) deepest (headByte type n) (0 + h) (0 + h + n) (counting pads 0 none)))
 
 pub scalars-judged : JudgedScalars
 unfolding judgedScalar typedBytes

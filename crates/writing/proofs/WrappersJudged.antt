@@ -1,16 +1,16 @@
 -- What is refused of a wrapper that is to be written is what the check refuses of it as a map: its own tests, the value's framing, the annotations' IDs, and then
 -- the value's reading and inside as they are by itself.
 -- Assumes nothing.
-use Prim.Native.Nat.{ℕ, suc, _+_, _-_, _%_, _^_, _≤_, _<_}
+use Prim.Native.Nat.{ℕ, suc, _+_, _-_, _^_, _≤_, _<_}
 use native.Mathlib.Omega.{arith}
-use borrow.Author.Tests.{lt-ltb, le-ltb, ltb-true, ltb-false, eqb-true, eqb-false, eq-eqb, ne-eqb, not-false}
+use borrow.Author.Tests.{lt-ltb, le-ltb, eqb-true, eqb-false, eq-eqb, ne-eqb, not-false}
 use mathlib.Core.Path.{_≡_, refl, _∙_, sym, ap, subst}
 use mathlib.Core.Bool.{Bool, true, false, not}
 use mathlib.Core.List.{List, _++_}
 use lib.ListN.{length, getD}
 use lib.Dec.{ltb, eqb}
 use Rattle.numbers.specs.Outcome.{Outcome, gives, refuses, pick, refuseIf, andThen}
-use Rattle.numbers.specs.Answers.{mostBytes, varUInt}
+use Rattle.numbers.specs.Answers.{mostBytes}
 use Rattle.numbers.specs.Descriptor.{descriptorOf, kindOf}
 use Rattle.numbers.proofs.Outcomes.{by-test, by-case, inside, each-of}
 use Rattle.numbers.proofs.Meaning.{var-uint-complete}
@@ -37,7 +37,7 @@ use Rattle.checking.specs.Private.Whole.{full}
 use Rattle.checking.proofs.Ids.{ids-none}
 use Rattle.checking.proofs.Unrolled.{unrolled}
 use Rattle.encoding.specs.Fields.{varUIntSize, varUIntBytes}
-use Rattle.encoding.specs.Heads.{headBytes, headByte, headCode, headSize, typedBytes, wrappedBytes, wrapperBytes, wrapperSize}
+use Rattle.encoding.specs.Heads.{headBytes, headCode, headSize, typedBytes, wrappedBytes, wrapperBytes, wrapperSize}
 use Rattle.encoding.specs.Meaning.{StandsAt}
 use Rattle.encoding.proofs.VarUInts.{bytes-size}
 use Rattle.encoding.proofs.Heads.{NumberStands, number-stands, HeadStands, head-stands, head-length, head-some, head-few, head-code, wrapped-length, wrapper-length}
@@ -202,7 +202,7 @@ module _ (limit : ℕ) (s : List ℕ) (g : outOfRange limit ≡ false) where
       unrolled limit s g Sequence deepest end at none (omega arith) k
       ∙ ap (onFound s (full limit s) (full limit s Sequence deepest end) deepest none) (found-single at end y h k q)
       ∙ then-given limit s g (valueCheck s (full limit s) deepest y (counting pads 0 none)) (full limit s Sequence deepest end (y .end)) (λ c.
-        ap (λ (x : ℕ). full limit s Sequence deepest end x c) e ∙ full-end limit s g Sequence deepest end c)
+      ap (λ (x : ℕ). full limit s Sequence deepest end x c) e ∙ full-end limit s g Sequence deepest end c)
 
 module _ (limit deepest : ℕ) (a v : List ℕ) (l : limitsOut limit deepest ≡ false) (small : inAll (length a) (length v) < 2 ^ 63) (lies : Laid a v (length a) (length v)) where
   abbrev m : ℕ
@@ -261,8 +261,8 @@ module _ (limit deepest : ℕ) (a v : List ℕ) (l : limitsOut limit deepest ≡
         let k = part-counted limit v t (b + m) 0 n ranged (omega arith) (omega (arith, lies .whole)) (λ j _ q. sym (stands-at (lies .value) j q)) n Sequence deepest n 0 none none (omega arith) (omega arith) (omega arith) in
         counted-is (b + m) k
         ∙ ap (countedFrom (b + m))
-          (ap (λ (i : ℕ). partCheck limit i t Sequence deepest (b + m + n) (b + m + 0) none) (sym z)
-          ∙ single-value limit t ranged deepest (b + m + 0) (b + m + n) y (omega arith) (omega (arith, lies .whole)) (value-framed h) (omega arith))
+        (ap (λ (i : ℕ). partCheck limit i t Sequence deepest (b + m + n) (b + m + 0) none) (sym z)
+        ∙ single-value limit t ranged deepest (b + m + 0) (b + m + n) y (omega arith) (omega (arith, lies .whole)) (value-framed h) (omega arith))
 
     ids-are : Counted b (readIds a 0 m) (readIds t b (b + m))
     ids-are =

@@ -1,7 +1,7 @@
 -- What is refused is what A.5 refuses of the thing taken as a map, to the letter: "its number is given, the position counted in the lent bytes then read .. and
 -- 0 where the reader names a descriptor still to be written". And what is written A.5 accepts. The proofs: `judged-as-a-map` and `accepted-as-a-map` of
--- proofs/Judging.antt, `one-byte-judged` of proofs/OneByteJudged.antt, `scalars-judged` and `scalars-accepted` of proofs/ScalarsJudged.antt, `bare-judged` and `bare-accepted` of proofs/BareJudged.antt,
--- `wrappers-judged` and `wrappers-accepted` of proofs/WrappersJudged.antt.
+-- proofs/Judging.antt, `one-byte-judged` of proofs/OneByteJudged.antt, `scalars-judged` and `scalars-accepted` of proofs/ScalarsJudged.antt, `bare-judged` and
+-- `bare-accepted` of proofs/BareJudged.antt, `wrappers-judged` and `wrappers-accepted` of proofs/WrappersJudged.antt.
 -- Assumes nothing.
 use Prim.Native.Nat.{ℕ, _+_, _-_}
 use mathlib.Core.Path.{_≡_}
@@ -57,9 +57,9 @@ JudgedBare =
     (limit deepest : ℕ) (thing : Thing) → Bare thing → limitsOut limit deepest ≡ false → outside thing ≡ false → tooLong thing ≡ false
     → judged limit deepest thing ≡ countedFrom 0 (wholeCheck limit deepest (written thing))
 
--- Of a wrapper annotations and value are lent. "The lent bytes then read": A.5 frames the value, then reads the annotations' IDs, then the value's scalar or its
--- inside. So a refusal of an ID is counted in the annotations, also where an ID is cut short at their end, and any other in the value. The annotations' m bytes
--- stand at w in the map s, the value behind them.
+-- Of a wrapper annotations and value are lent. "The lent bytes then read": A.5 frames the value, then reads the annotations' IDs, then the value's scalar or
+-- its inside. So a refusal of an ID is counted in the annotations, also where an ID is cut short at their end, and any other in the value. The annotations'
+-- m bytes stand at w in the map s, the value behind them.
 abbrev pub isRefused : {A : Type 0} → Outcome A → Bool
 isRefused (gives a) = false
 isRefused (refuses number position) = true
