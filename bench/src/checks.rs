@@ -29,7 +29,7 @@ const WORDS: usize = 16;
 const LEAST: Duration = Duration::from_millis(3);
 
 /// How many markers and values there are, by our check's counts.
-fn checked(map: &[u8]) -> u64 {
+pub fn checked(map: &[u8]) -> u64 {
     let mut out = [0u64; WORDS];
     let Limits { annotations, depth } = Limits::USUAL;
     // The call lends the map and the buffer for its own length, and nothing is kept.
@@ -48,7 +48,7 @@ fn checked(map: &[u8]) -> u64 {
 }
 
 /// As ion-rust's own reader goes on, with everything read.
-fn rust(map: &[u8], context: &mut EncodingContext) -> IonResult<u64> {
+pub fn rust(map: &[u8], context: &mut EncodingContext) -> IonResult<u64> {
     let mut items = 0;
     let mut at = 0;
     loop {
@@ -94,7 +94,7 @@ fn rust_value(value: &LazyRawBinaryValue_1_0<'_>, items: &mut u64) -> IonResult<
 }
 
 /// The best of `rounds`, in nanoseconds an item.
-fn best(items: u64, rounds: usize, mut read: impl FnMut() -> u64) -> f64 {
+pub fn best(items: u64, rounds: usize, mut read: impl FnMut() -> u64) -> f64 {
     let mut passes = 1u32;
     loop {
         let from = Instant::now();

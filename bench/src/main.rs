@@ -2,6 +2,7 @@
 
 mod checks;
 mod maps;
+mod packs;
 mod readers;
 mod texts;
 
@@ -248,6 +249,9 @@ fn main() {
     if arguments == ["--checks"] {
         return check_all(15);
     }
+    if arguments == ["--packs"] {
+        return pack_all(15);
+    }
     if arguments == ["--texts"] {
         return texts::print(15);
     }
@@ -271,6 +275,7 @@ fn main() {
     if !short {
         grow_all(rounds, &mut noise);
         check_all(rounds);
+        pack_all(rounds);
         texts::print(rounds);
     }
     noise.print();
@@ -279,6 +284,18 @@ fn main() {
 fn check_all(rounds: usize) {
     let made = KINDS.map(|(name, make)| (name.to_string(), make(4 * MEGABYTE)));
     checks::print(&made, rounds);
+}
+
+fn pack_all(rounds: usize) {
+    let mut made: Vec<(String, Vec<u8>)> = Vec::new();
+    for (name, make) in KINDS {
+        made.push((name.to_string(), make(4 * MEGABYTE)));
+    }
+    for depth in [1, 2, 4, 8, 16, 31] {
+        let map = maps::nested_exactly(4 * MEGABYTE, depth);
+        made.push((format!("nested, depth {depth}"), map));
+    }
+    packs::print(&made, rounds);
 }
 
 fn grow_all(rounds: usize, noise: &mut Noise) {
