@@ -332,6 +332,54 @@ static void check_packed(void)
     check("packed size, short record", ion_map_packed_size(padded, 20, LIMIT, 65, record, sizeof record - 1), 51);
 }
 
+/* What a call wrote: its length, the bytes, and that the byte behind them stayed. */
+static void check_written(const char *what, uint64_t returned, const uint8_t *to, const char *bytes, size_t length)
+{
+    words written = {ION_MAP_KIND_WRITTEN, 0, 0, 0, 0, 0, 0, 0, 0};
+
+    written[ION_MAP_WRITTEN_LENGTH] = length;
+    check(what, returned, 0);
+    check_words(what, record, written);
+    check(what, memcmp(to, bytes, length) != 0, 0);
+    check(what, to[length], 0xAA);
+}
+
+static void check_writes(void)
+{
+    static const uint8_t seven[] = {0x00, 0x07};
+    static const uint8_t text[] = {'t', 'r', 'e', 'e'};
+    static const uint8_t body[] = {0x21, 0x07, 0x20};
+    static const uint8_t id[] = {0x84};
+    static const words no_room = {ION_MAP_KIND_REFUSED, ION_MAP_REFUSAL_NO_ROOM_TO_WRITE, 5, 0, 0, 0, 0, 0, 0};
+    static const words no_pad = {ION_MAP_KIND_REFUSED, ION_MAP_REFUSAL_NO_SUCH_LENGTH, 0, 0, 0, 0, 0, 0, 0};
+    enum { SIZE = ION_MAP_RECORD_SIZE };
+    uint8_t to[16];
+
+#define WRITTEN(what, call, bytes) (memset(to, 0xAA, sizeof to), check_written(what, call, to, bytes, sizeof bytes - 1))
+    WRITTEN("a null int", ion_map_write_null(ION_MAP_TYPE_INT, to, 16, record, SIZE), "\x2F");
+    WRITTEN("a bool", ion_map_write_bool(1, to, 16, record, SIZE), "\x11");
+    WRITTEN("an int", ion_map_write_int(seven, 2, 1, to, 16, record, SIZE), "\x31\x07");
+    WRITTEN("an int of no bytes", ion_map_write_int(NULL, 0, 0, to, 16, record, SIZE), "\x20");
+    WRITTEN("a float", ion_map_write_float(0x3FF0000000000000u, to, 16, record, SIZE), "\x48\x3F\xF0\0\0\0\0\0\0");
+    WRITTEN("a float of zero", ion_map_write_float(0, to, 16, record, SIZE), "\x40");
+    WRITTEN("a symbol", ion_map_write_symbol(256, to, 16, record, SIZE), "\x72\x01\x00");
+    WRITTEN("a pad", ion_map_write_pad(3, to, 16, record, SIZE), "\x02\x00\x00");
+    WRITTEN("a string", ion_map_write_scalar(ION_MAP_TYPE_STRING, text, 4, to, 16, record, SIZE), "\x84tree");
+    WRITTEN("a list", ion_map_write_container(ION_MAP_TYPE_LIST, body, 3, LIMIT, DEPTH, to, 16, record, SIZE), "\xB3\x21\x07\x20");
+    WRITTEN("a wrapper", ion_map_write_wrapper(id, 1, body, 2, LIMIT, DEPTH, to, 16, record, SIZE), "\xE4\x81\x84\x21\x07");
+#undef WRITTEN
+    memset(to, 0xAA, sizeof to);
+    check("no room for a wrapper", ion_map_write_wrapper(id, 1, body, 2, LIMIT, DEPTH, to, 4, record, SIZE), 70);
+    check_words("no room for a wrapper", record, no_room);
+    check("a pad of no bytes", ion_map_write_pad(0, to, 16, record, SIZE), 71);
+    check_words("a pad of no bytes", record, no_pad);
+    check("a bool of 2", ion_map_write_bool(2, to, 16, record, SIZE), 50);
+    check("a wrapper around more than a value", ion_map_write_wrapper(id, 1, body, 3, LIMIT, DEPTH, to, 16, record, SIZE), 29);
+    check("a list with a limit out of range", ion_map_write_container(ION_MAP_TYPE_LIST, body, 3, 1, DEPTH, to, 16, record, SIZE), 68);
+    check("a short record", ion_map_write_bool(1, to, 16, record, SIZE - 1), 51);
+    check("nothing written", to[0], 0xAA);
+}
+
 static void check_symbols(void)
 {
     static const uint8_t names[] = {
@@ -471,6 +519,7 @@ int main(void)
     check_null();
     check_texts();
     check_packed();
+    check_writes();
     printf("%d checks, %d differ\n", checks, differing);
     return differing != 0;
 }
