@@ -55,8 +55,8 @@ use Rattle.runs.proofs.Program.{program-ends, program-tiling, program-overwriti
 use Rattle.overwriting.proofs.TextsStay.{texts-stay}
 use Rattle.overwriting.proofs.ProgramTexts.{program-texts-stay}
 use Rattle.records.proofs.FirstBytes.{first-bytes}
-use Rattle.maps.proofs.RunsOfCalls.{runs-of-calls}
-use Rattle.maps.proofs.RecordsBegin.{records-begin}
+use Rattle.batches.proofs.RunsOfCalls.{runs-of-calls}
+use Rattle.batches.proofs.RecordsBegin.{records-begin}
 use Rattle.claims.specs.Claims.{Total, WholeRuns, Equal}
 
 module _ (M : Type 1) (𝓤 : URA M) (H : Heap 𝓤) (𝓜 : Model 𝓤 H) (𝓖 : GhostRules 𝓤 H) (κs : Lfts 1) where

@@ -34,7 +34,7 @@ use Rattle.runs.specs.Program.{ProgramEnds, ProgramTiling, ProgramOverwriting, 
 use Rattle.overwriting.specs.TextsStay.{TextsStay}
 use Rattle.overwriting.specs.ProgramTexts.{ProgramTextsStay}
 use Rattle.records.specs.Theorems.{FirstBytes}
-use Rattle.maps.specs.Theorems.{RunsOfCalls, RecordsBegin}
+use Rattle.batches.specs.Theorems.{RunsOfCalls, RecordsBegin}
 
 -- Of the machine's own calls: in every model of the machine, for whichever borrow lends the map.
 module _ (M : Type 1) (𝓤 : URA M) (H : Heap 𝓤) (𝓜 : Model 𝓤 H) (𝓖 : GhostRules 𝓤 H) (κs : Lfts 1) where

@@ -2,7 +2,7 @@
 -- Assumes nothing.
 use Prim.Native.Nat.{ℕ, _+_, _-_, _≤_, _<_}
 use native.Mathlib.Omega.{arith}
-use borrow.Author.Tests.{le-ltb, lt-leb, eqb-true, ltb-false, leb-true, not-true}
+use borrow.Author.Tests.{le-ltb, lt-leb, eqb-true, ltb-false, leb-true, not-true, not-false}
 use mathlib.Core.Path.{_≡_, refl, _∙_, sym, subst}
 use mathlib.Core.Bool.{true, false, true≢false}
 use mathlib.Core.List.{List}
@@ -17,7 +17,7 @@ use Rattle.framing.specs.Answers.{noValue, isWrapper, sizedBy, lengthAt,
 use Rattle.framing.specs.Spans.{Spans}
 use Rattle.framing.specs.Format.{typeAt, codeAt, ValueType, typed, null-null, TypedValue, ValueBytes, plain, annotated}
 use Rattle.framing.specs.Private.InlineLengths.{inlineLength, hasInlineLength, hasLengthField, tooShort}
-use Rattle.framing.specs.ShortValue.{shortValue, noShortValue, shortValueOf}
+use Rattle.framing.specs.ShortValue.{shortValue, noShortValue, beginsValue, shortValueOf}
 use Rattle.framing.proofs.Bounds.{peeked-each, length-each, tests-each}
 use Rattle.framing.proofs.Nibbles.{is-value, value-kind, wrapper-kind}
 use Rattle.framing.proofs.Soundness.{here, plain-sound, value-sound, values-sound}
@@ -159,6 +159,12 @@ length-field-means type code =
     (λ _ e. absurd (true≢false (sym e)))
 
 module _ (s : List ℕ) (at end : ℕ) (l : at < end) where
+  -- a byte that begins none
+  pub unbegun-plain : beginsValue (getD s at 0) ≡ false → Each (λ _. ⊥) (valueWithoutAnnotations s at end (here s at))
+  unfolding valueWithoutAnnotations beginsValue descriptorOf
+  unbegun-plain h =
+      each-refuse (noValue (kindOf (typeAt s at) (codeAt s at))) 22 at (λ v. absurd (true≢false (sym (not-false _ h) ∙ v)))
+
   pub inline-plain : hasInlineLength (typeAt s at) (codeAt s at) ≡ true → valueWithoutAnnotations s at end (here s at) ≡ fitting at end (getD s at 0) (record { body = at + 1; size = inlineLength (typeAt s at) (codeAt s at) })
   unfolding valueWithoutAnnotations descriptorOf
   inline-plain h = rw (inline-means _ _ h .value, inline-read s at end (here s at) h)

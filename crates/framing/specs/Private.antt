@@ -2,3 +2,4 @@
 pub mod Peeked
 pub mod Located
 pub mod InlineLengths
+pub mod ShortLength

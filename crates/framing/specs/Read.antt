@@ -1,6 +1,6 @@
 -- What each case of a framing's enum says in the scope paper's terms: its spans, or its refusal's number and position.
 -- Assumes nothing.
-use Prim.Native.Nat.{ℕ}
+use Prim.Native.Nat.{ℕ, _+_}
 use Rattle.numbers.specs.Outcome.{Outcome, gives}
 use Rattle.numbers.specs.Read.{refusalRead}
 use Rattle.framing.specs.Answers.{Sized, Wrapping, Frame, padding, valued, Annotated, ident, finished}
@@ -56,7 +56,7 @@ frameRead (FrameRefused e) = refusalRead e
 
 -- of the value at `at` with this descriptor byte
 abbrev pub shortValueRead : ℕ → ℕ → ShortValueEnum → ShortValue
-shortValueRead byte at (ShortValueValue b e) = shortValue (bareSpans byte at b e)
+shortValueRead byte at (ShortValueValue b n) = shortValue (bareSpans byte at b (b + n))
 shortValueRead byte at ShortValueOther = noShortValue
 
 abbrev pub annotationRead : Annotation → Outcome Annotated

@@ -12,7 +12,7 @@ use crate::binary_buffer::Peeked;
 use crate::binary_buffer::is_pad;
 use crate::binary_buffer::is_wrapper;
 use crate::binary_buffer::no_value;
-use crate::binary_buffer::peek_type_descriptor;
+use crate::binary_buffer::peek_compared;
 use crate::encoded_value::AnnotationsWrapper;
 use crate::encoded_value::Length;
 use crate::encoded_value::read_length;
@@ -134,7 +134,7 @@ fn locate_inner_value(
 ) -> Located
     ensures { λ r. ⌜ locatedRead r ≡ innerAt (now (s .entry)) end (record { annotations = annotations; value = value; expected = expected }) ⌝ }
 {
-    match peek_type_descriptor(s, value, end) {
+    match peek_compared(s, value, end) {
         Peeked::At(descriptor) => {
             let kind = descriptor.kind;
             if is_wrapper(kind) {

@@ -11,6 +11,7 @@ ghost use Rattle.framing.specs.ShortValue.{bareSpans, shortValueOf, begi
 ghost use Rattle.framing.specs.Read.{lengthRead, padRead, wrapperRead, framedRead, frameRead, spansOf, shortValueRead};
 ghost use Rattle.framing.specs.Private.Peeked.{peekedRead};
 ghost use Rattle.framing.specs.Private.Located.{differsFrom, fitted, locatedValue};
+ghost use Rattle.framing.specs.Private.ShortLength.{ShortLengthAt};
 use crate::annotations_wrapper::Located;
 use crate::annotations_wrapper::locate_value;
 use crate::annotations_wrapper::read_wrapper;
@@ -20,6 +21,7 @@ use crate::encoded_value::Frame;
 use crate::encoded_value::Framed;
 use crate::encoded_value::Length;
 use crate::encoded_value::NopPad;
+use crate::encoded_value::ShortLength;
 use crate::encoded_value::ShortValue;
 use crate::encoded_value::has_inline_length;
 use crate::encoded_value::has_length_field;
@@ -87,13 +89,33 @@ pub(crate) fn no_value(kind: Kind) -> bool
     }
 }
 
-// Looks at the descriptor at `at`, where one can stand.
+// A descriptor that was looked at, where one can stand.
 pub(crate) enum Peeked {
     At(TypeDescriptor),
     Refused(Refusal),
 }
 
-pub(crate) fn peek_type_descriptor(s: &[u8], at: usize, end: usize) -> Peeked
+// Looks at the descriptor at `at`, by the table: for the entries that no step calls.
+fn peek_type_descriptor(s: &[u8], at: usize, end: usize) -> Peeked
+    ensures { λ r. ⌜ peekedRead r ≡ peekedDescriptor (now (s .entry)) at end ⌝ }
+{
+    if outside(s, at, end) {
+        return Peeked::Refused(Refusal {
+            number: OUTSIDE,
+            position: 0,
+        });
+    }
+    if at == end {
+        return Peeked::Refused(Refusal {
+            number: NO_VALUE_LEFT,
+            position: end,
+        });
+    }
+    Peeked::At(TypeDescriptor::from_byte(s[at]))
+}
+
+// The same by comparisons, for the steps: a look into the table first writes all of it to the stack.
+pub(crate) fn peek_compared(s: &[u8], at: usize, end: usize) -> Peeked
     ensures { λ r. ⌜ peekedRead r ≡ peekedDescriptor (now (s .entry)) at end ⌝ }
 {
     if outside(s, at, end) {
@@ -187,8 +209,7 @@ fn fit_short(at: usize, end: usize, body: usize, size: usize) -> ShortValue
     if end - body < size {
         return ShortValue::Other;
     }
-    let past = body + size;
-    ShortValue::Value { body, end: past }
+    ShortValue::Value { body, size }
 }
 
 // The value that stands at `value` with this descriptor, in the item at `at`.
@@ -270,7 +291,7 @@ pub fn read_value(s: &[u8], at: usize, end: usize, limit: usize) -> Framed
 }
 
 // Whether a byte begins a value or a null, without a wrapper.
-pub fn begins_value(byte: u8) -> bool
+fn begins_value(byte: u8) -> bool
     ensures { λ r. ⌜ r ≡ beginsValue byte ⌝ }
 {
     if byte < FIRST_VALUE {
@@ -293,7 +314,35 @@ pub fn bare_value(byte: u8, at: usize, body: usize, end: usize) -> EncodedValue
     }
 }
 
-// The value at `at`, where it has no wrapper and its length field has three bytes at most: its descriptor tells its length, or a short VarUInt does.
+// The length of the value at `at`, where it has no wrapper and a length field of three bytes at most: its descriptor tells it, or a short VarUInt does.
+fn short_length(s: &[u8], at: usize, end: usize) -> ShortLength
+    requires { ⌜ (at < end) × (end ≤ length (now s)) ⌝ }
+    ensures { λ r. ⌜ ShortLengthAt (now (s .entry)) at end r ⌝ }
+{
+    let byte = s[at];
+    let after = at + 1;
+    if has_inline_length(byte / 16, byte % 16) {
+        let size = inline_length(byte / 16, byte % 16);
+        return ShortLength::Known { body: after, size };
+    }
+    if !has_length_field(byte / 16, byte % 16) {
+        return ShortLength::Other;
+    }
+    match short_var_uint(s, after, end) {
+        ShortVarUInt::Value { value, next } => {
+            if too_short(byte / 16, byte % 16, value) {
+                return ShortLength::Other;
+            }
+            ShortLength::Known {
+                body: next,
+                size: value,
+            }
+        }
+        ShortVarUInt::Other => ShortLength::Other,
+    }
+}
+
+// The value at `at`, where it has no wrapper and its length field has three bytes at most.
 pub fn short_value(s: &[u8], at: usize, end: usize) -> ShortValue
     ensures { λ r. ⌜ ((limit : ℕ) → shortValueRead (getD (now (s .entry)) at 0) at r ≡ shortValueOf at (readValue limit (now (s .entry)) at end)) ⌝ }
 {
@@ -303,23 +352,12 @@ pub fn short_value(s: &[u8], at: usize, end: usize) -> ShortValue
     if end <= at {
         return ShortValue::Other;
     }
-    let byte = s[at];
-    let after = at + 1;
-    if has_inline_length(byte / 16, byte % 16) {
-        let size = inline_length(byte / 16, byte % 16);
-        return fit_short(at, end, after, size);
-    }
-    if !has_length_field(byte / 16, byte % 16) {
+    if !begins_value(s[at]) {
         return ShortValue::Other;
     }
-    match short_var_uint(s, after, end) {
-        ShortVarUInt::Value { value, next } => {
-            if too_short(byte / 16, byte % 16, value) {
-                return ShortValue::Other;
-            }
-            fit_short(at, end, next, value)
-        }
-        ShortVarUInt::Other => ShortValue::Other,
+    match short_length(s, at, end) {
+        ShortLength::Known { body, size } => fit_short(at, end, body, size),
+        ShortLength::Other => ShortValue::Other,
     }
 }
 
@@ -333,7 +371,7 @@ pub fn read_frame(s: &[u8], at: usize, end: usize, limit: usize) -> Frame
             position: 0,
         });
     }
-    match peek_type_descriptor(s, at, end) {
+    match peek_compared(s, at, end) {
         Peeked::At(descriptor) => read_frame_at(s, at, end, descriptor, limit),
         Peeked::Refused(refusal) => Frame::Refused(refusal),
     }

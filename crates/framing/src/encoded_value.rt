@@ -64,7 +64,13 @@ pub enum Frame {
 
 // A value without a wrapper whose length field has at most three bytes: most values are such. Nothing is said of another.
 pub enum ShortValue {
-    Value { body: usize, end: usize },
+    Value { body: usize, size: usize },
+    Other,
+}
+
+// The length of such a value, and where its body is to begin.
+pub(crate) enum ShortLength {
+    Known { body: usize, size: usize },
     Other,
 }
 

@@ -1,4 +1,1 @@
 pub mod Within
-pub mod ManySteps
-pub mod RunsOfCalls
-pub mod RecordsBegin

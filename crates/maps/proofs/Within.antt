@@ -1,8 +1,8 @@
 -- A position in a part of a map: there an exported step is the step of its rules, and elsewhere it is refused with 50.
 -- Assumes nothing.
 use Prim.Native.Nat.{ℕ, _≤_, _<_}
-use borrow.Author.Tests.{ltb-true, ltb-false, leb-true, leb-false, lt-ltb, le-ltb}
-use mathlib.Core.Path.{_≡_, sym}
+use borrow.Author.Tests.{ltb-true, ltb-false, leb-true, lt-ltb, le-ltb, le-leb}
+use mathlib.Core.Path.{_≡_, _∙_, sym}
 use mathlib.Core.Bool.{true, false, true≢false}
 use mathlib.Core.List.{List}
 use lib.ListN.{length}
@@ -12,13 +12,9 @@ use Rattle.numbers.proofs.Outcomes.{by-test, by-case}
 use Rattle.stepping.specs.Answers.{found, stepOf, answerAt}
 use Rattle.stepping.specs.Kinds.{rulesOf}
 use Rattle.stepping.specs.declared.cursor.Rules.{Rules}
-use Rattle.values.specs.Scalars.{valueIn, stepIn}
-use Rattle.records.specs.Buffer.{numberOf, numberIn}
-use Rattle.records.specs.Words.{bodyWords}
-use Rattle.records.proofs.Numbers.{entered-number}
 use Rattle.framing.specs.Limits.{outOfRange}
-use Rattle.maps.specs.Exported.{exportedStep, exportedBody}
-use Rattle.maps.specs.Private.Inside.{insideOf}
+use Rattle.maps.specs.Exported.{exportedStep}
+use Rattle.maps.specs.Inside.{insideOf}
 
 pub record Inside (s : List ℕ) (start end at kind : ℕ) : Type 0 where
   pub low : start ≤ at
@@ -28,10 +24,10 @@ pub record Inside (s : List ℕ) (start end at kind : ℕ) : Type 0 where
 
 pub inside : (s : List ℕ) (start end at kind : ℕ) → insideOf s start end at kind ≡ true → Inside s start end at kind
 inside s start end at kind =
-    by-test (λ b. b ≡ true → Inside s start end at kind) (ltb at start) (λ _ e. absurd (true≢false (sym e))) (λ l.
-    by-test (λ b. b ≡ true → Inside s start end at kind) (ltb 2 kind) (λ _ e. absurd (true≢false (sym e))) (λ k.
-    by-test (λ b. b ≡ true → Inside s start end at kind) (ltb end at) (λ _ e. absurd (true≢false (sym e))) (λ o e.
-    record { low = ltb-false at start l; kind-is = ltb-false 2 kind k; order = ltb-false end at o; high = leb-true end (length s) e })))
+    by-test (λ b. b ≡ true → Inside s start end at kind) (ltb (length s) end) (λ _ e. absurd (true≢false (sym e))) (λ h.
+    by-test (λ b. b ≡ true → Inside s start end at kind) (ltb end at) (λ _ e. absurd (true≢false (sym e))) (λ o.
+    by-test (λ b. b ≡ true → Inside s start end at kind) (ltb at start) (λ _ e. absurd (true≢false (sym e))) (λ l e.
+    record { low = ltb-false at start l; kind-is = leb-true kind 2 e; order = ltb-false end at o; high = ltb-false (length s) end h })))
 
 -- with a limit that is none a step is refused, and so is an exported one
 pub refused-unranged : (limit : ℕ) (rules : Rules) (s : List ℕ) (at end : ℕ) → outOfRange limit ≡ true → answerAt limit rules s at end ≡ refuses 68 0
@@ -73,9 +69,5 @@ step-outside limit s start end at kind g h =
     rw k
     (refused-outside limit (rulesOf kind) s at end g
     (by-case (ltb end at) (λ o. no-order s at end (ltb-true end at o)) (λ o.
-    too-far s at end (ltb-false end at o) (leb-false end (length s) (rw (l, k, o) at h)))))))))
-
--- the number of an opened body's record is that of stepping in
-pub body-number : (limit : ℕ) (s : List ℕ) (start end at : ℕ) → numberIn (bodyWords (exportedBody limit s start end at)) ≡ numberOf (stepIn limit s start end at)
-unfolding exportedBody stepIn
-body-number limit s start end at = entered-number (valueIn limit s start end at)
+    by-case (ltb (length s) end) (λ f. too-far s at end (ltb-false end at o) (ltb-true (length s) end f)) (λ f.
+    absurd (true≢false (sym (le-leb kind 2 (ltb-false 2 kind k)) ∙ (rw (f, o, l) at h)))))))))))

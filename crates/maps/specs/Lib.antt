@@ -1,4 +1,2 @@
 pub mod Exported
-pub mod Steps
-pub mod Theorems
-pub mod Private
+pub mod Inside

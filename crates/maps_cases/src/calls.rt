@@ -9,20 +9,20 @@ use additions::readings::ion_map_check;
 use additions::readings::ion_map_decimal;
 use additions::readings::ion_map_ids;
 use additions::readings::ion_map_timestamp;
-use maps::exports::ion_map_annotation;
-use maps::exports::ion_map_number;
-use maps::exports::ion_map_scalar;
+use batches::steps::ion_map_steps;
 use maps::exports::ion_map_step;
-use maps::exports::ion_map_step_in;
-use maps::exports::ion_map_walked;
-use maps::steps::ion_map_steps;
 use questions::text::Line;
 use questions::text::number;
 use questions::text::number_or;
 use questions::text::part;
 use questions::text::word;
+use readings::exports::ion_map_annotation;
+use readings::exports::ion_map_number;
+use readings::exports::ion_map_scalar;
+use readings::exports::ion_map_step_in;
 use records::buffer::RECORD_SIZE;
 use records::buffer::RECORD_WORDS;
+use walking::exports::ion_map_walked;
 
 // The bytes of a word.
 const WORD_SIZE: usize = RECORD_SIZE / RECORD_WORDS;

@@ -3,3 +3,4 @@ pub mod Numbers
 pub mod SymbolNumbers
 pub mod FirstBytes
 pub mod Examples
+pub mod BareWords

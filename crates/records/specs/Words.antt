@@ -8,6 +8,8 @@ use Rattle.framing.specs.Answers.{Annotated}
 use Rattle.bodies.specs.Decimal.{Split}
 use Rattle.bodies.specs.declared.timestamp.Stamp.{Stamp}
 use Rattle.stepping.specs.Items.{Item, finish, marker, value, field}
+use Rattle.stepping.specs.declared.cursor.Rules.{Rules}
+use Rattle.stepping.specs.declared.cursor.Rules.the-variants.{Stream, Sequence, Fields}
 use Rattle.values.specs.Scalars.{Scalar, ReadValue, spanOf}
 use Rattle.values.specs.Timestamps.{Dated, stamped, other}
 use Rattle.records.specs.FirstWords.{Entered, oneIf, Number}
@@ -39,6 +41,18 @@ itemLength (field id a v) = v .end - v .body
 abbrev pub words : Outcome Item → List ℕ
 words (gives i) = withLength (first.itemWords i) (itemLength i)
 words (refuses number position) = refusedWords number position
+
+-- "2 value, 3 field": of a value, by the rules of its part
+abbrev pub valueKind : Rules → ℕ
+valueKind Stream = 2
+valueKind Sequence = 2
+valueKind Fields = 3
+
+-- the words of a value without a wrapper, from their numbers, the body's length among them: its name's place and ID, its byte and where that stands, its
+-- body's places and length. They are `words` of what is read: `bare-words` of proofs/BareWords.antt.
+abbrev pub bareWords : Rules → ℕ → ℕ → ℕ → ℕ → ℕ → ℕ → ℕ → List ℕ
+bareWords rules start id byte at body end size =
+    valueKind rules ∷ byte ∷ start ∷ at ∷ at ∷ body ∷ end ∷ id ∷ size ∷ []
 
 -- ---- the bounded step: by the change request A.8 kind 4 has the number of pads passed "as word 1, with the new position as word 2, the rest 0"
 

@@ -8,7 +8,7 @@ ghost use Rattle.bodies.specs.Decimal.{decimalRead};
 ghost use Rattle.stepping.specs.Read.{itemRead};
 ghost use Rattle.values.specs.Read.{bodyRead, scalarRead, datedRead};
 ghost use Rattle.records.specs.FirstWords.{enteredAt, oneIf};
-ghost use Rattle.records.specs.Words.{words, valueWords, endWords, moreWords, refusedWords, annotationWords, bodyWords, scalarWords, decimalWords, fieldsWord, stampWords, timestampWords};
+ghost use Rattle.records.specs.Words.{words, valueKind, bareWords, valueWords, endWords, moreWords, refusedWords, annotationWords, bodyWords, scalarWords, decimalWords, fieldsWord, stampWords, timestampWords};
 use crate::buffer::RECORD_WORDS;
 use crate::buffer::REFUSED;
 use bodies::decimal::Decimal;
@@ -18,6 +18,7 @@ use framing::encoded_value::EncodedValue;
 use numbers::refusal::OUTSIDE;
 use numbers::refusal::Refusal;
 use stepping::cursor::Item;
+use stepping::cursor::Rules;
 use stepping::cursor::part_kind;
 use values::value::Body;
 use values::value::Scalar;
@@ -53,6 +54,43 @@ fn value_words(kind: u64, start: usize, value: EncodedValue, id: usize) -> [u64;
         value.end as u64,
         id as u64,
         size_of(value.body, value.end),
+    ]
+}
+
+// The kind of a value's record, by the rules of its part.
+fn value_kind(rules: Rules) -> u64
+    ensures { λ r. ⌜ r ≡ valueKind rules ⌝ }
+{
+    match rules {
+        Rules::Stream => 2,
+        Rules::Sequence => 2,
+        Rules::Fields => 3,
+    }
+}
+
+// The words of a value without a wrapper whose descriptor is this byte at `at`, behind its name: its body is body..end, of `size` bytes.
+pub fn bare_words(
+    rules: Rules,
+    start: usize,
+    id: usize,
+    byte: u8,
+    at: usize,
+    body: usize,
+    end: usize,
+    size: usize,
+) -> [u64; RECORD_WORDS]
+    ensures { λ r. ⌜ r ≡ bareWords rules start id byte at body end size ⌝ }
+{
+    [
+        value_kind(rules),
+        wide(byte),
+        start as u64,
+        at as u64,
+        at as u64,
+        body as u64,
+        end as u64,
+        id as u64,
+        size as u64,
     ]
 }
 

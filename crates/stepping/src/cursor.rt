@@ -195,7 +195,7 @@ fn read_field_id(s: &[u8], at: usize, end: usize) -> Named
 {
     match read_var_uint(s, at, end) {
         VarUInt::Value { value, next } => {
-            if next == end {
+            if end <= next {
                 return Named::Refused(Refusal {
                     number: FIELD_CUT,
                     position: end,

@@ -11,9 +11,8 @@ ghost use Rattle.framing.specs.Read.{spansOf};
 ghost use Rattle.stepping.specs.Read.{itemRead};
 ghost use Rattle.walking.specs.Walk.{mostDepth, limitsOut, visit, wholeWalk};
 ghost use Rattle.walking.specs.Calls.{startOf, seek, stateAfterValue, stateAfterVisit, visitOf, nextOf, calls, itemsIn, walkedRead};
-ghost use Rattle.walking.specs.Private.State.{rulesBy, stateOf, seenRead, ShortAt, MetAt, endsBody};
+ghost use Rattle.walking.specs.Private.State.{rulesBy, stateOf, seenRead, MetAt, endsBody};
 use framing::binary_buffer::bare_value;
-use framing::binary_buffer::begins_value;
 use framing::binary_buffer::short_value;
 use framing::encoded_value::EncodedValue;
 use framing::encoded_value::ShortValue;
@@ -236,24 +235,14 @@ enum Met {
     Refused,
 }
 
-// The short value at `at`, before the part's end; most other bytes need no more than a look.
-fn short_at(s: &[u8], at: usize, end: usize) -> ShortValue
-    requires { ⌜ (at < end) × (end ≤ length (now s)) ⌝ }
-    ensures { λ r. ⌜ ((limit : ℕ) → ShortAt limit (now (s .entry)) at end r) ⌝ }
-{
-    if !begins_value(s[at]) {
-        return ShortValue::Other;
-    }
-    short_value(s, at, end)
-}
-
 fn meet(rules: Rules, s: &[u8], at: usize, end: usize) -> Met
     requires { ⌜ (at < end) × (end ≤ length (now s)) ⌝ }
     ensures { λ r. ⌜ ((limit : ℕ) → outOfRange limit ≡ false → MetAt limit rules (now (s .entry)) at end r) ⌝ }
 {
     match read_name(rules, s, at, end) {
-        Named::At { id, next } => match short_at(s, next, end) {
-            ShortValue::Value { body, end: past } => {
+        Named::At { id, next } => match short_value(s, next, end) {
+            ShortValue::Value { body, size } => {
+                let past = body + size;
                 Met::Value(bare_value(s[next], next, body, past))
             }
             ShortValue::Other => Met::Behind { id, next },

@@ -4,14 +4,9 @@ use Prim.Native.Nat.{ℕ}
 use mathlib.Core.Path.{_≡_}
 use mathlib.Core.Bool.{Bool, true, false}
 use mathlib.Core.List.{List}
-use lib.ListN.{getD}
 use lib.Dec.{eqb}
 use Rattle.numbers.specs.Outcome.{Outcome, gives, refuses, pick}
-use Rattle.framing.specs.Spans.{Spans}
-use Rattle.framing.specs.Answers.{readValue}
-use Rattle.framing.specs.ShortValue.{shortValue, shortValueOf}
-use Rattle.framing.specs.Read.{spansOf, shortValueRead}
-use Rattle.framing.specs.declared.encoded_value.ShortValue.{ShortValue}
+use Rattle.framing.specs.Read.{spansOf}
 use Rattle.stepping.specs.Items.{Item, finish, marker, value, field}
 use Rattle.stepping.specs.Answers.{answerAt}
 use Rattle.stepping.specs.Names.{itemBy, answerFrom}
@@ -35,11 +30,6 @@ stateOf ends fields p = record { ends = ends; fields = fields; depth = p .depth;
 
 abbrev pub seenRead : Seen → Visit
 seenRead r = record { depth = r .depth; answer = itemRead (r .item) }
-
--- a short value that is said at `at` is one
-abbrev pub ShortAt : ℕ → List ℕ → ℕ → ℕ → ShortValue → Type 0
-ShortAt limit s at end r =
-    (v : Spans) → shortValueRead (getD s at 0) at r ≡ shortValue v → shortValueOf at (readValue limit s at end) ≡ shortValue v
 
 -- what is met at `at` is what a step there answers: a value behind some name; what stands behind the name that was read; or a refusal
 abbrev pub MetAt : ℕ → Rules → List ℕ → ℕ → ℕ → Met → Type 0

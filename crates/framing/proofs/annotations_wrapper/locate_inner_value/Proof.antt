@@ -9,8 +9,8 @@ use Rattle.framing.specs.Private.Peeked.{peekedRead}
 use Rattle.framing.proofs.annotations_wrapper.locate_inner_value.Statement.{statement}
 use Rattle.framing.proofs.annotations_wrapper.locate_inner_value.Tie as tie
 
-peek-type-descriptor-requires : tie.Need-peek-type-descriptor-requires
-peek-type-descriptor-requires c κs = search needs
+peek-compared-requires : tie.Need-peek-compared-requires
+peek-compared-requires c κs = search needs
 
 enum-known-descriptor : tie.Need-enum-known-descriptor
 enum-known-descriptor c = search needs
@@ -25,7 +25,7 @@ returns c =
     let a = k .before .before .before .before .before .args in
     let w : Wrapping = record { annotations = a .annotations; value = a .value; expected = a .expected } in
     (rw (sym (c .before .is-wrapper .ensures) ∙ c .if1 .taken))
-    ∙ then-by peekedRead (innerTests w) (k .before .descriptor .given .1) (k .before .before .before .peek-type-descriptor .ensures)
+    ∙ then-by peekedRead (innerTests w) (k .before .descriptor .given .1) (k .before .before .before .peek-compared .ensures)
 
 is-pad-requires : tie.Need-is-pad-requires
 is-pad-requires c κs = search needs
@@ -38,7 +38,7 @@ returns-2 c =
     let a = k .before .before .before .before .before .args in
     let w : Wrapping = record { annotations = a .annotations; value = a .value; expected = a .expected } in
     (rw (sym (d .before .is-wrapper .ensures) ∙ d .if1 .left, sym (c .before .is-pad .ensures) ∙ c .if2 .taken))
-    ∙ then-by peekedRead (innerTests w) (k .before .descriptor .given .1) (k .before .before .before .peek-type-descriptor .ensures)
+    ∙ then-by peekedRead (innerTests w) (k .before .descriptor .given .1) (k .before .before .before .peek-compared .ensures)
 
 no-value-requires : tie.Need-no-value-requires
 no-value-requires c κs = search needs
@@ -52,7 +52,7 @@ returns-3 c =
     let a = k .before .before .before .before .before .args in
     let w : Wrapping = record { annotations = a .annotations; value = a .value; expected = a .expected } in
     (rw (sym (d .before .is-wrapper .ensures) ∙ d .if1 .left, sym (e .before .is-pad .ensures) ∙ e .if2 .left, sym (c .before .no-value .ensures) ∙ c .if3 .taken))
-    ∙ then-by peekedRead (innerTests w) (k .before .descriptor .given .1) (k .before .before .before .peek-type-descriptor .ensures)
+    ∙ then-by peekedRead (innerTests w) (k .before .descriptor .given .1) (k .before .before .before .peek-compared .ensures)
 
 enum-known-refusal : tie.Need-enum-known-refusal
 enum-known-refusal c = search needs
@@ -66,19 +66,19 @@ returns-4 c =
     let a = k .before .before .before .before .before .args in
     let w : Wrapping = record { annotations = a .annotations; value = a .value; expected = a .expected } in
     (rw (sym (d .before .is-wrapper .ensures) ∙ d .if1 .left, sym (e .before .is-pad .ensures) ∙ e .if2 .left, sym (c .before .no-value .ensures) ∙ c .if3 .left))
-    ∙ then-by peekedRead (innerTests w) (k .before .descriptor .given .1) (k .before .before .before .peek-type-descriptor .ensures)
+    ∙ then-by peekedRead (innerTests w) (k .before .descriptor .given .1) (k .before .before .before .peek-compared .ensures)
 
 returns-5 : tie.Need-returns-5
 unfolding innerAt
 returns-5 c =
     let q = c .before .before .before in
-    then-by peekedRead (innerTests _) (c .before .refusal .given .1) (q .peek-type-descriptor .ensures)
+    then-by peekedRead (innerTests _) (c .before .refusal .given .1) (q .peek-compared .ensures)
 
 pub locate-inner-value-spec : {M : Type 1} → statement M
 locate-inner-value-spec =
     tie.close
     (tie.spec
-    peek-type-descriptor-requires
+    peek-compared-requires
     enum-known-descriptor
     is-wrapper-requires
     returns

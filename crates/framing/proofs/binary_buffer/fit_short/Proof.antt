@@ -14,9 +14,6 @@ returns : tie.Need-returns
 unfolding fitting
 returns c = λ b. rw (lt-ltb _ _ (c .if1 .taken))
 
-add-past : tie.Need-add-past
-add-past c = search needs
-
 returns-2 : tie.Need-returns-2
 unfolding fitting
 returns-2 c =
@@ -24,4 +21,4 @@ returns-2 c =
     λ b. rw (le-ltb _ _ (c .if1 .left), eq-eqb (a .at) (a .at) refl, le-leb _ _ (c .before .pre .1))
 
 pub fit-short-spec : {M : Type 1} → statement M
-fit-short-spec = tie.close (tie.spec sub-if1 returns add-past returns-2)
+fit-short-spec = tie.close (tie.spec sub-if1 returns returns-2)

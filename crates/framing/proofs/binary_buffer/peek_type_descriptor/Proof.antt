@@ -22,21 +22,21 @@ returns-2 : tie.Need-returns-2
 unfolding peekedDescriptor
 returns-2 c = rw (sym (c .before .before .outside .ensures) ∙ c .before .if1 .left, eq-eqb _ _ (c .if2 .taken))
 
-shared-slice-read-compared : tie.Need-shared-slice-read-compared
-shared-slice-read-compared c =
+shared-slice-read-from-byte : tie.Need-shared-slice-read-from-byte
+shared-slice-read-from-byte c =
     let d = c .before .before in
     let a = d .before .before .before .args in
     let e : outsideOf (a .s .now) (a .at) (a .end) ≡ false = sym (d .before .outside .ensures) ∙ d .if1 .left in
     omega (arith, inside-order (a .s .now) (a .at) (a .end) e, inside-end (a .s .now) (a .at) (a .end) e)
 
-compared-requires : tie.Need-compared-requires
-compared-requires c κs = search needs
+from-byte-requires : tie.Need-from-byte-requires
+from-byte-requires c κs = search needs
 
 returns-3 : tie.Need-returns-3
 unfolding peekedDescriptor
 returns-3 c =
     let d = c .before .before .before in
-    rw (c .compared .ensures, sym (d .before .outside .ensures) ∙ d .if1 .left, ne-eqb _ _ (c .before .before .if2 .left))
+    rw (c .from-byte .ensures, sym (d .before .outside .ensures) ∙ d .if1 .left, ne-eqb _ _ (c .before .before .if2 .left))
 
 pub peek-type-descriptor-spec : {M : Type 1} → statement M
 peek-type-descriptor-spec =
@@ -45,6 +45,6 @@ peek-type-descriptor-spec =
     outside-requires
     returns
     returns-2
-    shared-slice-read-compared
-    compared-requires
+    shared-slice-read-from-byte
+    from-byte-requires
     returns-3)

@@ -19,8 +19,8 @@ ranged : (c : tie.Else1) → outOfRange (c .before .before .before .args .limit)
 ranged c = sym (c .before .out-of-range .ensures) ∙ c .if1 .left
 
 -- the descriptor is one of the part
-told : (c : tie.After-peek-type-descriptor) (d : TypeDescriptor) → peekedRead (c .peek-type-descriptor .result) ≡ gives d → let a = c .before .before .before .before .args in PeekedAt (a .s .now) (a .at) (a .end) d
-told c d e = let a = c .before .before .before .before .args in each-of (peeked-each (a .s .now) (a .at) (a .end)) (sym (c .peek-type-descriptor .ensures) ∙ e)
+told : (c : tie.After-peek-compared) (d : TypeDescriptor) → peekedRead (c .peek-compared .result) ≡ gives d → let a = c .before .before .before .before .args in PeekedAt (a .s .now) (a .at) (a .end) d
+told c d e = let a = c .before .before .before .before .args in each-of (peeked-each (a .s .now) (a .at) (a .end)) (sym (c .peek-compared .ensures) ∙ e)
 
 out-of-range-requires : tie.Need-out-of-range-requires
 out-of-range-requires c κs = search needs
@@ -28,8 +28,8 @@ out-of-range-requires c κs = search needs
 returns : tie.Need-returns
 returns c = rw (sym (c .before .out-of-range .ensures) ∙ c .if1 .taken)
 
-peek-type-descriptor-requires : tie.Need-peek-type-descriptor-requires
-peek-type-descriptor-requires c κs = search needs
+peek-compared-requires : tie.Need-peek-compared-requires
+peek-compared-requires c κs = search needs
 
 enum-known-descriptor : tie.Need-enum-known-descriptor
 enum-known-descriptor c = search needs
@@ -47,7 +47,7 @@ returns-2 c =
     let q = c .before .before .before .before in
     let a = q .before .before .before .before .args in
     rw (ranged (q .before))
-    (c .read-frame-at .ensures ∙ then-by peekedRead (frameAt (a .limit) (a .s .now) (a .at) (a .end)) (c .before .before .descriptor .given .1) (q .peek-type-descriptor .ensures))
+    (c .read-frame-at .ensures ∙ then-by peekedRead (frameAt (a .limit) (a .s .now) (a .at) (a .end)) (c .before .before .descriptor .given .1) (q .peek-compared .ensures))
 
 returns-3 : tie.Need-returns-3
 unfolding readFrame
@@ -55,7 +55,7 @@ returns-3 c =
     let q = c .before .before .before in
     let a = q .before .before .before .before .args in
     rw (ranged (q .before))
-    (then-by peekedRead (frameAt (a .limit) (a .s .now) (a .at) (a .end)) (c .before .refusal .given .1) (q .peek-type-descriptor .ensures))
+    (then-by peekedRead (frameAt (a .limit) (a .s .now) (a .at) (a .end)) (c .before .refusal .given .1) (q .peek-compared .ensures))
 
 pub read-frame-spec : {M : Type 1} → statement M
 read-frame-spec =
@@ -63,7 +63,7 @@ read-frame-spec =
     (tie.spec
     out-of-range-requires
     returns
-    peek-type-descriptor-requires
+    peek-compared-requires
     enum-known-descriptor
     read-frame-at-requires
     enum-known-refusal

@@ -1,0 +1,4 @@
+pub mod Putting
+pub mod ManySteps
+pub mod RunsOfCalls
+pub mod RecordsBegin
