@@ -4,9 +4,3 @@ pub mod Widening
 pub mod Rows
 pub mod Encoding
 pub mod Splitting
-pub mod Powers
-pub mod Gregorian
-pub mod Ranges
-pub mod FieldReading
-pub mod Stamping
-pub mod StampMoving

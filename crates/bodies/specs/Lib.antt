@@ -3,7 +3,4 @@ pub mod Widen
 pub mod Uint
 pub mod Magnitude
 pub mod Decimal
-pub mod Calendar
-pub mod Timestamp
-pub mod TimestampMeaning
 pub mod Private

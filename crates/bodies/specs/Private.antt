@@ -1,4 +1,3 @@
 -- Definitions that only private functions' contracts cite: a reader of the crate needs none of them.
 pub mod Sequence
 pub mod Fields
-pub mod Reading

@@ -28,7 +28,7 @@ use Rattle.stepping.proofs.Soundness.{steps-sound}
 use Rattle.values.specs.Scalars.{isContainer, bodyRules, opened, Scalar, decimal, timestamp, valueIn, stepIn, readScalar}
 use Rattle.values.specs.Scalars.{boolOf, positiveOf, negativeOf, floatOf, symbolOf, stringOf, typedOf, scalarOf}
 use Rattle.bodies.specs.Decimal.{decimal as splitDecimal}
-use Rattle.bodies.specs.Timestamp.{timestamp as readStamp}
+use Rattle.timestamps.specs.Timestamp.{timestamp as readStamp}
 use Rattle.walking.specs.Walk.{limitsOut}
 use Rattle.walking.proofs.Depths.{in-limit}
 use Rattle.runs.specs.Reached.{ValueOf, a-value, a-field, Part, the-stream, inner, Handed, EntryAt, nextAnnotation, AnnotationRun, none as no-more, call as one-more}

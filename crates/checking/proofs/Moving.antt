@@ -16,11 +16,11 @@ use Rattle.framing.specs.Answers.{Annotated, ident, finished, identified, readA
 use Rattle.bodies.specs.Utf8.{utf8, wellFormed}
 use Rattle.bodies.specs.Magnitude.{nonzeroAmong, significantFrom}
 use Rattle.bodies.specs.Decimal.{Split, decimal as splitDecimal, movedDecimal}
-use Rattle.bodies.specs.Timestamp.{Encoded, encoded, outOfRange, stampOf, ranged, hourAlone, tooWide, judged, timestamp as readStamp}
-use Rattle.bodies.specs.TimestampMeaning.{movedEncoded}
-use Rattle.bodies.specs.declared.timestamp.Stamp.{Stamp}
+use Rattle.timestamps.specs.Timestamp.{Encoded, encoded, outOfRange, stampOf, ranged, hourAlone, tooWide, judged, timestamp as readStamp}
+use Rattle.timestamps.specs.TimestampMeaning.{movedEncoded}
+use Rattle.timestamps.specs.declared.timestamp.Stamp.{Stamp}
 use Rattle.bodies.proofs.Splitting.{decimals-moved}
-use Rattle.bodies.proofs.StampMoving.{timestamps-moved}
+use Rattle.timestamps.proofs.StampMoving.{timestamps-moved}
 use Rattle.values.specs.Scalars.{typeOf, codeOf, Scalar, null, bool, int, float, decimal, timestamp, symbol, string, clob, blob, container}
 use Rattle.values.specs.Scalars.{boolOf, positiveOf, negativeOf, floatOf, symbolOf, stringOf, typedOf, scalarOf}
 use Rattle.checking.specs.Reading.{Done, done, asDone, onId, idsFrom, readIds, readBody, readContent, contentNext, readItem}

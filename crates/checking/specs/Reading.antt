@@ -6,7 +6,7 @@ use Rattle.numbers.specs.Outcome.{Outcome, gives, andThen}
 use Rattle.framing.specs.Spans.{Spans}
 use Rattle.framing.specs.Answers.{Annotated, ident, finished, readAnnotation}
 use Rattle.bodies.specs.Decimal.{decimal as splitDecimal}
-use Rattle.bodies.specs.Timestamp.{timestamp as readStamp}
+use Rattle.timestamps.specs.Timestamp.{timestamp as readStamp}
 use Rattle.values.specs.Scalars.{Scalar, null, bool, int, float, decimal, timestamp, symbol, string, clob, blob, container, scalarOf}
 
 -- what was read without a refusal

@@ -9,7 +9,7 @@ use Rattle.numbers.specs.Outcome.{Outcome, gives}
 use Rattle.framing.specs.Spans.{Spans}
 use Rattle.framing.specs.Answers.{Annotated, readAnnotation}
 use Rattle.bodies.specs.Decimal.{decimal as splitDecimal}
-use Rattle.bodies.specs.Timestamp.{timestamp as readStamp}
+use Rattle.timestamps.specs.Timestamp.{timestamp as readStamp}
 use Rattle.stepping.specs.Items.{Item}
 use Rattle.stepping.specs.Answers.{Stepped}
 use Rattle.stepping.specs.Runs.{cursor, Answers, Run}

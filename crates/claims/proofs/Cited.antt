@@ -10,9 +10,9 @@ use Rattle.framing.proofs.Ranges.{limit-range}
 use Rattle.framing.proofs.Soundness.{values-sound, pads-sound}
 use Rattle.framing.proofs.Completeness.{values-complete, pads-complete}
 use Rattle.bodies.proofs.Splitting.{decimals-sound, decimals-complete, empty-decimals, decimals-local, decimals-moved}
-use Rattle.bodies.proofs.Gregorian.{months-sound, months-complete, four-centuries}
-use Rattle.bodies.proofs.Stamping.{timestamps-sound, timestamps-complete}
-use Rattle.bodies.proofs.StampMoving.{timestamps-local, timestamps-moved}
+use Rattle.timestamps.proofs.Gregorian.{months-sound, months-complete, four-centuries}
+use Rattle.timestamps.proofs.Stamping.{timestamps-sound, timestamps-complete}
+use Rattle.timestamps.proofs.StampMoving.{timestamps-local, timestamps-moved}
 use Rattle.stepping.proofs.Soundness.{steps-sound, steps-repeat, refusals-keep}
 use Rattle.stepping.proofs.Completeness.{steps-complete}
 use Rattle.stepping.proofs.Tiling.{runs}

@@ -10,8 +10,8 @@ use Rattle.numbers.specs.Meaning.{VarUIntSound, VarUIntComplete, VarIntSound, V
 use Rattle.framing.specs.Limits.{LimitRange}
 use Rattle.framing.specs.Meaning.{ValuesSound, ValuesComplete, PadsSound, PadsComplete}
 use Rattle.bodies.specs.Decimal.{DecimalsSound, DecimalsComplete, EmptyDecimals, DecimalsLocal, DecimalsMoved}
-use Rattle.bodies.specs.Calendar.{MonthsSound, MonthsComplete, FourCenturies}
-use Rattle.bodies.specs.TimestampMeaning.{TimestampsSound, TimestampsComplete, TimestampsLocal, TimestampsMoved}
+use Rattle.timestamps.specs.Calendar.{MonthsSound, MonthsComplete, FourCenturies}
+use Rattle.timestamps.specs.TimestampMeaning.{TimestampsSound, TimestampsComplete, TimestampsLocal, TimestampsMoved}
 use Rattle.stepping.specs.Meaning.{StepsSound, StepsComplete, StepsRepeat, RefusalsKeep}
 use Rattle.stepping.specs.Theorems.{RunsExist}
 use Rattle.counting.specs.Meaning.{IdsSound, NoIdsUnread}

@@ -6,7 +6,7 @@ use Rattle.numbers.specs.Outcome.{Outcome, gives, refuses}
 use Rattle.framing.specs.Spans.{Spans}
 use Rattle.framing.specs.Answers.{Annotated}
 use Rattle.bodies.specs.Decimal.{Split}
-use Rattle.bodies.specs.declared.timestamp.Stamp.{Stamp}
+use Rattle.timestamps.specs.declared.timestamp.Stamp.{Stamp}
 use Rattle.stepping.specs.Items.{Item, finish, marker, value, field}
 use Rattle.stepping.specs.declared.cursor.Rules.{Rules}
 use Rattle.stepping.specs.declared.cursor.Rules.the-variants.{Stream, Sequence, Fields}

@@ -12,7 +12,7 @@ ghost use Rattle.records.specs.Words.{words, valueKind, bareWords, value
 use crate::buffer::RECORD_WORDS;
 use crate::buffer::REFUSED;
 use bodies::decimal::Decimal;
-use bodies::timestamp::Stamp;
+use timestamps::timestamp::Stamp;
 use framing::annotations_iterator::Annotation;
 use framing::encoded_value::EncodedValue;
 use numbers::refusal::OUTSIDE;

@@ -6,8 +6,8 @@ use mathlib.Core.List.{List}
 use lib.Dec.{eqb}
 use Rattle.numbers.specs.Outcome.{Outcome, gives, pick, andThen}
 use Rattle.framing.specs.Spans.{Spans}
-use Rattle.bodies.specs.Timestamp.{timestamp}
-use Rattle.bodies.specs.declared.timestamp.Stamp.{Stamp}
+use Rattle.timestamps.specs.Timestamp.{timestamp}
+use Rattle.timestamps.specs.declared.timestamp.Stamp.{Stamp}
 use Rattle.values.specs.Scalars.{valueIn, typeOf, codeOf, Scalar, scalarOf}
 
 -- a timestamp, with its descriptor's position, or the spans and the scalar of another value

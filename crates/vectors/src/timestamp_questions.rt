@@ -1,8 +1,8 @@
 // The answers to questions on timestamps' bodies.
 use crate::number_questions::refused;
-use bodies::timestamp;
-use bodies::timestamp::Stamp;
-use bodies::timestamp::Timestamp;
+use timestamps::timestamp;
+use timestamps::timestamp::Stamp;
+use timestamps::timestamp::Timestamp;
 use questions::text;
 use questions::text::Line;
 

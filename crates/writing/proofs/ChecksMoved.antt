@@ -17,11 +17,11 @@ use Rattle.framing.specs.Answers.{Annotated, ident, finished}
 use Rattle.bodies.specs.Utf8.{utf8}
 use Rattle.bodies.specs.Magnitude.{significantFrom}
 use Rattle.bodies.specs.Decimal.{Split, decimal as splitDecimal, movedDecimal}
-use Rattle.bodies.specs.Timestamp.{Encoded, encoded, outOfRange as stampOut, stampOf, ranged, hourAlone, tooWide, judged as stampJudged, timestamp as readStamp}
-use Rattle.bodies.specs.TimestampMeaning.{movedEncoded}
-use Rattle.bodies.specs.declared.timestamp.Stamp.{Stamp}
+use Rattle.timestamps.specs.Timestamp.{Encoded, encoded, outOfRange as stampOut, stampOf, ranged, hourAlone, tooWide, judged as stampJudged, timestamp as readStamp}
+use Rattle.timestamps.specs.TimestampMeaning.{movedEncoded}
+use Rattle.timestamps.specs.declared.timestamp.Stamp.{Stamp}
 use Rattle.bodies.proofs.Splitting.{decimals-moved}
-use Rattle.bodies.proofs.StampMoving.{timestamps-moved}
+use Rattle.timestamps.proofs.StampMoving.{timestamps-moved}
 use Rattle.stepping.specs.Items.{Item, finish, marker, value, field}
 use Rattle.stepping.specs.Answers.{found}
 use Rattle.stepping.specs.Runs.{cursor}

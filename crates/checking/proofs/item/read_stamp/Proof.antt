@@ -2,7 +2,7 @@
 -- Assumes nothing.
 use borrow.Author.Needs.{needs}
 use Rattle.numbers.proofs.Outcomes.{then-by}
-use Rattle.bodies.specs.Timestamp.{timestampRead}
+use Rattle.timestamps.specs.Timestamp.{timestampRead}
 use Rattle.checking.specs.Reading.{asDone}
 use Rattle.checking.proofs.item.read_stamp.Statement.{statement}
 use Rattle.checking.proofs.item.read_stamp.Tie as tie

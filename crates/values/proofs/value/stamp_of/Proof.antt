@@ -2,7 +2,7 @@
 -- Assumes nothing.
 use borrow.Author.Needs.{needs}
 use Rattle.numbers.proofs.Outcomes.{then-by}
-use Rattle.bodies.specs.Timestamp.{timestampRead}
+use Rattle.timestamps.specs.Timestamp.{timestampRead}
 use Rattle.values.specs.Timestamps.{stampedAt}
 use Rattle.values.proofs.value.stamp_of.Statement.{statement}
 use Rattle.values.proofs.value.stamp_of.Tie as tie

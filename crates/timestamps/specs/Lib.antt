@@ -1,0 +1,4 @@
+pub mod Calendar
+pub mod Timestamp
+pub mod TimestampMeaning
+pub mod Private
