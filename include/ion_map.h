@@ -22,7 +22,7 @@
 /* The version, as text and as a number that grows with it: 10000 times the first number, 100 times the second, and the
    third. CHANGELOG.md says what a caller must change from one to the next. */
 #define ION_MAP_VERSION "0.3.1"
-#define ION_MAP_VERSION_NUMBER 300
+#define ION_MAP_VERSION_NUMBER 301
 
 /* Where the next line is an error, size_t has not 64 bits, and positions would be cut: the library is not for this target. */
 typedef char ion_map_needs_a_size_t_of_64_bits[sizeof(size_t) == 8 ? 1 : -1];

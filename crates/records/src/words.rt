@@ -12,7 +12,6 @@ ghost use Rattle.records.specs.Words.{words, valueKind, bareWords, value
 use crate::buffer::RECORD_WORDS;
 use crate::buffer::REFUSED;
 use bodies::decimal::Decimal;
-use timestamps::timestamp::Stamp;
 use framing::annotations_iterator::Annotation;
 use framing::encoded_value::EncodedValue;
 use numbers::refusal::OUTSIDE;
@@ -20,6 +19,7 @@ use numbers::refusal::Refusal;
 use stepping::cursor::Item;
 use stepping::cursor::Rules;
 use stepping::cursor::part_kind;
+use timestamps::timestamp::Stamp;
 use values::value::Body;
 use values::value::Scalar;
 use values::value::TimestampRead;

@@ -15,9 +15,6 @@ ghost use Rattle.values.specs.Read.{bodyRead, scalarRead, valueRead, dat
 ghost use Rattle.values.specs.Private.Values.{valueFrom};
 use bodies::float::widen;
 use bodies::magnitude::significant;
-use timestamps::timestamp::Stamp;
-use timestamps::timestamp::Timestamp;
-use timestamps::timestamp::read_timestamp as read_body;
 use bodies::uint::uint_of;
 use bodies::utf8::is_utf8;
 use framing::encoded_value::EncodedValue;
@@ -38,6 +35,9 @@ use stepping::cursor::Cursor;
 use stepping::cursor::Item;
 use stepping::cursor::Rules;
 use stepping::cursor::item_at;
+use timestamps::timestamp::Stamp;
+use timestamps::timestamp::Timestamp;
+use timestamps::timestamp::read_timestamp as read_body;
 
 // The body of a container: its rules, and a cursor at its start.
 pub enum Body {

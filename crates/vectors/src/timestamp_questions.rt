@@ -1,10 +1,10 @@
 // The answers to questions on timestamps' bodies.
 use crate::number_questions::refused;
+use questions::text;
+use questions::text::Line;
 use timestamps::timestamp;
 use timestamps::timestamp::Stamp;
 use timestamps::timestamp::Timestamp;
-use questions::text;
-use questions::text::Line;
 
 fn sign(line: Line, negative: bool) -> Line {
     if negative {
