@@ -39,6 +39,10 @@ module _ (old : List ℕ) {o p : Outcome Item} {new ws : List ℕ} (q : p ≡ o)
   put-over h f =
       (ap (λ (m : ℕ). Over m) (f ∙ ap (λ (w : List ℕ). returnedBy w old) e) ∙ sym (ap (λ (l : Left). onLeft l (Over (returnedBy (words p) old)) (λ k. At k)) h) ∙ ap (λ (x : Outcome Item). putBy x old) q, record-put)
 
+-- the place that is said is the one that an answer leaves
+pub same-place : {j k : ℕ} {x : Put} → j ≡ k → At k ≡ x → At j ≡ x
+same-place e h = ap (λ (k : ℕ). At k) e ∙ h
+
 -- ---- and back
 
 on-at : (l : Left) (n k : ℕ) → onLeft l (Over n) (λ e. At e) ≡ At k → l ≡ LeftAt k

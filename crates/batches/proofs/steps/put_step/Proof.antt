@@ -22,7 +22,7 @@ use Rattle.records.specs.Buffer.{recordIn}
 use Rattle.records.specs.Words.{words, bareWords}
 use Rattle.records.proofs.BareWords.{bare-words}
 use Rattle.batches.specs.Private.Run.{putBy}
-use Rattle.batches.proofs.Putting.{value-leaves, put-at, put-over}
+use Rattle.batches.proofs.Putting.{value-leaves, put-at, put-over, same-place}
 use Rattle.batches.proofs.steps.put_step.Statement.{statement}
 use Rattle.batches.proofs.steps.put_step.Tie as tie
 
@@ -142,7 +142,8 @@ returns-2 c =
     let size = b .body .given .0 .1 .0 in
     let e : w .bare-words .result ≡ bareWords (a .rules) (a .at) (n .value) (getD s (n .next) 0) (n .next) body (body + size) size = w .bare-words .ensures in
     let f = bare-words s (a .at) (a .end) (getD s (n .next) 0) body size (a .rules) n (named d) in
-    put-at (a .out .now) (sym o) (e ∙ f) (p .put-record2 .ensures .1) (value-leaves (a .rules) (a .at) (n .value) (value b))
+    let r = put-at (a .out .now) (sym o) (e ∙ f) (p .put-record2 .ensures .1) (value-leaves (a .rules) (a .at) (n .value) (value b)) in
+    (same-place {k = body + size} (omega arith) (r .0), r .1)
 
 same-length-3 : tie.Need-same-length-3
 same-length-3 c = search needs

@@ -17,7 +17,7 @@ use Rattle.records.specs.Buffer.{bytesOf, recordSize, returnedBy}
 use Rattle.records.specs.Words.{words}
 use Rattle.records.proofs.Numbers.{step-number}
 use Rattle.batches.specs.Steps.{allWords, lastNumber}
-use Rattle.batches.specs.Private.Run.{stepRun}
+use Rattle.batches.specs.Private.Run.{stepRun, putBy}
 use Rattle.batches.specs.declared.steps.Put.the-variants.{At, Over}
 use Rattle.batches.proofs.Putting.{at-left, over-left}
 use Rattle.batches.proofs.ManySteps.{at-number, one-more, the-last, none-left, left-in, words-all, next-record, put-part, returned-whole}
@@ -48,11 +48,14 @@ module _ (b : tie.After-slice-known2 Inv-loop μ-loop) where
   abbrev part : List ℕ
   part = let l = within .before .loop in midOf (l .count * recordSize) (l .count * recordSize + recordSize - l .count * recordSize) (l .out)
 
+  said : put .put-step .result ≡ putBy o part
+  said = put .put-step .ensures .0
+
   goes-on : (e : ℕ) → put .put-step .result ≡ At e → leftOf o ≡ LeftAt e
-  goes-on e h = at-left o part e (sym (put .put-step .ensures .0) ∙ h)
+  goes-on e h = at-left o part e (sym said ∙ h)
 
   is-over : (n : ℕ) → put .put-step .result ≡ Over n → (leftOf o ≡ LeftOver) × (n ≡ returnedBy (words o) part)
-  is-over n h = over-left o part n (sym (put .put-step .ensures .0) ∙ h)
+  is-over n h = over-left o part n (sym said ∙ h)
 
   room-is : let a = within .before .before .before .before .args in length (a .out .now) / recordSize - within .before .loop .count ≡ suc (length (a .out .now) / recordSize - (within .before .loop .count + 1))
   room-is = omega (arith, within .loop-test .taken)
