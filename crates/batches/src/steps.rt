@@ -19,7 +19,7 @@ use records::words::{bare_words, end_words, item_words, outside_words, refused_w
 use stepping::cursor::{Left, Named, Rules, item_from, left_by, read_name, rules_of};
 
 // Where a step leaves its run: at the next step, or nowhere, with the number that it returns.
-#[derive(Drop)]
+#[derive(Clone, Copy)]
 enum Put {
     At(usize),
     Over(u64),
@@ -78,7 +78,7 @@ fn put_step(rules: Rules, map: &[u8], at: usize, end: usize, limit: usize, out: 
 }
 
 // How many records were put, and the number of the last answer.
-#[derive(Drop)]
+#[derive(Clone, Copy)]
 struct Steps {
     count: usize,
     number: u64,

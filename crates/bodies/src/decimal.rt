@@ -7,7 +7,7 @@ use numbers::int::Int;
 use numbers::refusal::{OUTSIDE, Refusal};
 use numbers::var_int::VarInt;
 
-#[derive(Drop)]
+#[derive(Clone, Copy)]
 pub enum Decimal {
     // The exponent's sign and magnitude, zero being positive, and the coefficient as an Int: its sign, the low seven bits
     // of its first byte, and the bytes after that one: rest..end.

@@ -23,7 +23,7 @@ use walking::walk::limits_out;
 const LEAST_ROOM: usize = 1;
 
 // The answer to a check: the counts of markers, pads and each type, which are zero where it is refused.
-#[derive(Drop)]
+#[derive(Clone, Copy)]
 pub struct Checked {
     pub verdict: Verdict,
     pub counts: [u64; PLACES],

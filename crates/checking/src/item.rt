@@ -31,14 +31,14 @@ const MARKERS: usize = 0;
 const PADS: usize = 1;
 
 // Whether all that was asked for could be read.
-#[derive(Drop)]
+#[derive(Clone, Copy)]
 pub enum Verdict {
     Accepted,
     Refused(Refusal),
 }
 
 // What a step meets: the part's end, a marker, a value or a refusal.
-#[derive(Drop)]
+#[derive(Clone, Copy)]
 pub(crate) enum Met {
     Over,
     Marker { end: usize },
@@ -47,7 +47,7 @@ pub(crate) enum Met {
 }
 
 // What is read of a value before its inside: that it has none, that it is a container, whose body has these rules, or a refusal.
-#[derive(Drop)]
+#[derive(Clone, Copy)]
 pub(crate) enum Head {
     Leaf,
     Inside { rules: Rules },

@@ -13,7 +13,7 @@ use numbers::refusal::{LIMIT_OUT_OF_RANGE, NO_PADS_ALLOWED, OUTSIDE, Refusal};
 use stepping::cursor::{Cursor, Item, Named, Rules, after_item, item_from, read_name};
 
 // What a step answers, how many pads it passed, and how many names it began to read: in a struct's body these are field IDs.
-#[derive(Drop)]
+#[derive(Clone, Copy)]
 pub struct Counted {
     pub item: Item,
     pub pads: usize,
@@ -21,7 +21,7 @@ pub struct Counted {
 }
 
 // What a bounded step answers.
-#[derive(Drop)]
+#[derive(Clone, Copy)]
 pub enum Bounded {
     // The answer of the step, which met its bound nowhere.
     Reached(Counted),
@@ -30,7 +30,7 @@ pub enum Bounded {
 }
 
 // An answer, and the cursor for the next step: the one given where the step is refused.
-#[derive(Drop)]
+#[derive(Clone, Copy)]
 pub struct BoundedStep {
     pub answer: Bounded,
     pub next: Cursor,

@@ -7,7 +7,7 @@ use numbers::binary_buffer::{outside, read_var_uint_slow};
 use numbers::refusal::{OUTSIDE, Refusal};
 use numbers::var_uint::VarUInt;
 
-#[derive(Drop)]
+#[derive(Clone, Copy)]
 pub enum Annotation {
     // An ID, and where the next one begins.
     Id { id: usize, next: usize },

@@ -96,7 +96,7 @@ pub(crate) fn read_wrapper(
 }
 
 // Where a value stands, once its wrapper is read: `expected` is how long the wrapper's lengths say that it is, 0 where it has no wrapper.
-#[derive(Drop)]
+#[derive(Clone, Copy)]
 pub(crate) enum Located {
     Value {
         annotations: usize,

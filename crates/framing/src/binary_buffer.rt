@@ -71,7 +71,7 @@ pub(crate) fn no_value(kind: Kind) -> bool
 }
 
 // A descriptor that was looked at, where one can stand.
-#[derive(Drop)]
+#[derive(Clone, Copy)]
 pub(crate) enum Peeked {
     At(TypeDescriptor),
     Refused(Refusal),

@@ -9,7 +9,7 @@ use numbers::refusal::{BAD_FLOAT_LENGTH, EMPTY_ORDERED_STRUCT, Refusal, TIMESTAM
 use numbers::type_descriptor::TypeDescriptor;
 use numbers::var_uint::VarUInt;
 
-#[derive(Drop)]
+#[derive(Clone, Copy)]
 pub struct EncodedValue {
     // Where the value with its wrapper starts.
     pub start: usize,
@@ -25,21 +25,21 @@ pub struct EncodedValue {
 }
 
 // A value's length, and where its body starts.
-#[derive(Drop)]
+#[derive(Clone, Copy)]
 pub enum Length {
     Known { body: usize, size: usize },
     Refused(Refusal),
 }
 
 // A pad: its body, and where it ends.
-#[derive(Drop)]
+#[derive(Clone, Copy)]
 pub enum NopPad {
     Pad { body: usize, end: usize },
     Refused(Refusal),
 }
 
 // A wrapper: where its annotations start, where its value stands, and how long that is to be.
-#[derive(Drop)]
+#[derive(Clone, Copy)]
 pub enum AnnotationsWrapper {
     Wrapper {
         annotations: usize,
@@ -50,14 +50,14 @@ pub enum AnnotationsWrapper {
 }
 
 // A value.
-#[derive(Drop)]
+#[derive(Clone, Copy)]
 pub enum Framed {
     Value(EncodedValue),
     Refused(Refusal),
 }
 
 // What a step meets: a pad or a value.
-#[derive(Drop)]
+#[derive(Clone, Copy)]
 pub enum Frame {
     Pad { body: usize, end: usize },
     Value(EncodedValue),
@@ -65,14 +65,14 @@ pub enum Frame {
 }
 
 // A value without a wrapper whose length field has at most three bytes: most values are such. Nothing is said of another.
-#[derive(Drop)]
+#[derive(Clone, Copy)]
 pub enum ShortValue {
     Value { body: usize, size: usize },
     Other,
 }
 
 // The length of such a value, and where its body is to begin.
-#[derive(Drop)]
+#[derive(Clone, Copy)]
 pub(crate) enum ShortLength {
     Known { body: usize, size: usize },
     Other,

@@ -1,22 +1,22 @@
 -- The private reading of a number's bytes follows its definition: one byte on, the last byte, and none.
 -- Assumes nothing.
-use Prim.Native.Nat.{ℕ, suc, ◌+◌, ◌-◌, ◌*◌, ◌/◌, ◌%◌, ◌^◌, ◌≤◌, ◌<◌}
+use Prim.Native.Nat.{ℕ, ◌+◌, ◌-◌, ◌*◌, ◌/◌, ◌%◌, ◌^◌, ◌≤◌, ◌<◌}
 use native.Mathlib.Omega.{arith}
 use native.Mathlib.Numerals.{add-one}
 use native.Mathlib.Nat.{pow-suc, mul_comm, pow-le-pow_right, lt_of_lt_of_le, mod-lt}
 use mathlib.Core.Path.{◌≡◌, ◌∙◌, sym, ap}
-use mathlib.Core.List.{List, [], ◌∷◌}
+use mathlib.Core.List.{List, []}
 use lib.ListN.{length, get_or, length-map}
 use lib.Dec.{eqb, ltb}
 use borrow.Author.Tests.{eq-eqb, ne_eqb, eqb-false, lt-ltb, le-ltb}
 use Rattle.numbers.specs.Format.{of_digits, var_uint_of, var_int_negative, var_int_magnitude}
-use Rattle.numbers.specs.Outcome.{Outcome, gives, refuses, refuse_if, and_then}
+use Rattle.numbers.specs.Outcome.{Outcome, gives, refuses, and_then}
 use Rattle.numbers.specs.Bytes.{part}
 use Rattle.numbers.specs.Answers.{most_bytes, Unsigned, Signed, signed, last_byte, var_number, var_uint, var_int}
 use Rattle.numbers.specs.Private.Groups.{groups, followed_by}
 use Rattle.numbers.proofs.Outcomes.{refuse_same, refuse_first, within_part}
 use Rattle.numbers.proofs.Parts.{part_cons, part_one}
-use Rattle.numbers.proofs.Digits.{digit_below, followed_cons, followed_none, followed_zero}
+use Rattle.numbers.proofs.Digits.{followed_cons, followed_none, followed_zero}
 use Rattle.numbers.proofs.LastByte.{last_here, last_on, last_high, last_low}
 
 -- a VarInt's bytes, by its first one

@@ -3,19 +3,18 @@
 use Prim.Native.Nat.{ℕ, ◌+◌, ◌-◌, ◌≤◌, ◌<◌}
 use native.Mathlib.Omega.{arith}
 use mathlib.Core.Path.{◌≡◌, refl, ◌∙◌, sym, ap, subst}
-use mathlib.Core.Bool.{Bool, true, false}
 use mathlib.Core.List.{List}
 use lib.ListN.{length, get_or}
 use lib.Dec.{ltb, eqb}
-use borrow.Author.Tests.{ltb-false, ltb-true, eqb-true, eqb-false, lt-ltb, le-ltb}
-use Rattle.numbers.specs.Format.{var_uint_of, var_int_negative, var_int_magnitude, int_negative, NumberAt}
-use Rattle.numbers.specs.Outcome.{Outcome, gives, refuses, refuse_if, pick, within, outside_of}
-use Rattle.numbers.specs.Bytes.{part, Same}
-use Rattle.numbers.specs.Answers.{most_bytes, Unsigned, Signed, Fixed, unsigned, signed, last_byte, looked_to, var_number, var_uint, var_int, int}
+use borrow.Author.Tests.{ltb-false, ltb-true, eqb-false, lt-ltb, le-ltb}
+use Rattle.numbers.specs.Format.{int_negative, NumberAt}
+use Rattle.numbers.specs.Outcome.{Outcome, gives, within, outside_of}
+use Rattle.numbers.specs.Bytes.{Same}
+use Rattle.numbers.specs.Answers.{most_bytes, Unsigned, Signed, unsigned, signed, last_byte, looked_to, var_number, var_uint, var_int, int}
 use Rattle.numbers.proofs.Outcomes.{by_test, refuse_same, pick_same, inside_order, inside_end}
 use Rattle.numbers.proofs.Parts.{part_same, part_cons}
-use Rattle.numbers.proofs.LastByte.{last_local, last_high, last_low, last_is}
-use Rattle.numbers.proofs.Meaning.{ReadAt, var_uint_at, var_int_at, found_at}
+use Rattle.numbers.proofs.LastByte.{last_local, last_high, last_is}
+use Rattle.numbers.proofs.Meaning.{var_uint_at, var_int_at, found_at}
 
 -- the test for 50 is the same where the lengths are
 pub outside_local : (s t : List ℕ) (at end : ℕ) → length s ≡ length t → outside_of s at end ≡ outside_of t at end

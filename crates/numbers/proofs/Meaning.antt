@@ -5,13 +5,12 @@ use native.Mathlib.Omega.{arith}
 use native.Mathlib.Numerals.{add-one}
 use native.Mathlib.Nat.{pow-le-pow_right, lt_of_lt_of_le, mul-le-mul_right, mod-lt}
 use mathlib.Core.Path.{◌≡◌, refl, ◌∙◌, sym, ap, subst}
-use mathlib.Core.Bool.{Bool, true, false}
 use mathlib.Core.List.{List, [], ◌∷◌, map}
 use lib.ListN.{length, get_or, length-map}
 use lib.Dec.{ltb, eqb}
-use borrow.Author.Tests.{ltb-true, ltb-false, eqb-true, eqb-false, le-ltb, lt-ltb, ne_eqb, eq-eqb}
+use borrow.Author.Tests.{ltb-true, ltb-false, eqb-true, eqb-false, le-ltb, ne_eqb}
 use Rattle.numbers.specs.Format.{VarBytes, last, more, of_digits, low_seven, var_uint_of, var_int_magnitude, int_negative, int_magnitude, NumberAt}
-use Rattle.numbers.specs.Outcome.{Outcome, gives, refuses, refuse_if, pick, outside_of}
+use Rattle.numbers.specs.Outcome.{Outcome, gives, outside_of}
 use Rattle.numbers.specs.Bytes.{part}
 use Rattle.numbers.specs.Answers.{Unsigned, Signed, Fixed, unsigned, signed, most_bytes, last_byte, var_number, var_uint, var_int, int}
 use Rattle.numbers.specs.Meaning.{NumberMeaning, reads, outside, cut_short, too_long, VarUIntSound, VarIntSound, VarUIntComplete, VarIntComplete, VarUIntSmall, VarIntSmall, IntMeaning, IntsSound, IntsComplete}

@@ -79,7 +79,7 @@ fn read_groups(s: &[u8], from: usize, at: usize, end: usize, first: usize, cut: 
 }
 
 // The first bytes of a VarUInt, three at most.
-#[derive(Drop)]
+#[derive(Clone, Copy)]
 enum FirstBytes {
     // They are all of it: what it is worth, and where it ends.
     All { value: usize, next: usize },

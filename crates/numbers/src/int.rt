@@ -1,7 +1,7 @@
 // An Int as it was read.
 use crate::refusal::Refusal;
 
-#[derive(Drop)]
+#[derive(Clone, Copy)]
 pub enum Int {
     // Its sign, the low seven bits of its first byte, and the bytes after that one: rest..end. Negative zero is negative
     // with nothing but zero bits.

@@ -1,4 +1,6 @@
 // Numbers and descriptors of the Ion 1.0 binary encoding: the lowest layer of the map reader.
+#![tactic(auto)]
+
 pub mod binary_buffer;
 pub mod int;
 pub mod refusal;

@@ -1,5 +1,5 @@
 // Why an entry refuses, and where: a number and a position in the caller's slice.
-#[derive(Drop)]
+#[derive(Clone, Copy)]
 pub struct Refusal {
     pub number: u64,
     pub position: usize,

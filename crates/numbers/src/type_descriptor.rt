@@ -4,7 +4,7 @@ ghost use Rattle.numbers.specs.Descriptor.{descriptor_of, kind_of};
 ghost use Rattle.numbers.specs.Private.Packed.{packed_of, numbered_kind};
 
 // What a descriptor byte begins.
-#[derive(Drop)]
+#[derive(Clone, Copy)]
 pub enum Kind {
     Value,
     Null,
@@ -14,7 +14,7 @@ pub enum Kind {
     Reserved,
 }
 
-#[derive(Drop)]
+#[derive(Clone, Copy)]
 pub struct TypeDescriptor {
     pub type_code: u8,
     pub length_code: u8,

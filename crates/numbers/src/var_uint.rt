@@ -1,7 +1,7 @@
 // A VarUInt as it was read.
 use crate::refusal::Refusal;
 
-#[derive(Drop)]
+#[derive(Clone, Copy)]
 pub enum VarUInt {
     // What it is worth, and where it ends.
     Value { value: usize, next: usize },
@@ -9,7 +9,7 @@ pub enum VarUInt {
 }
 
 // A VarUInt of three bytes at most.
-#[derive(Drop)]
+#[derive(Clone, Copy)]
 pub enum ShortVarUInt {
     // What it is worth, and where it ends.
     Value { value: usize, next: usize },

@@ -23,14 +23,14 @@ use stepping::cursor::{Item, Rules, item_at};
 use values::value::is_container;
 
 // The answer: a packed map's size.
-#[derive(Drop)]
+#[derive(Clone, Copy)]
 pub enum PackedSize {
     Bytes(usize),
     Refused(Refusal),
 }
 
 // What a step meets: the part's end, a marker, or a value that begins at `from`, with its field ID in a struct.
-#[derive(Drop)]
+#[derive(Clone, Copy)]
 pub(crate) enum Met {
     Over,
     Marker { major: u8, minor: u8, end: usize },

@@ -92,7 +92,7 @@ pub fn hex(word: &[u8], bytes: &mut [u8]) -> usize {
 }
 
 // A line that is being written.
-#[derive(Drop)]
+#[derive(Clone, Copy)]
 pub struct Line {
     pub bytes: [u8; 4096],
     pub len: usize,

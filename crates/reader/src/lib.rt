@@ -9,7 +9,7 @@ use framing::limits::out_of_range;
 use numbers::refusal::{LIMIT_OUT_OF_RANGE, OUTSIDE, Refusal};
 use stepping::cursor::{Cursor, Item, LAST_KIND, Step};
 
-#[derive(Drop)]
+#[derive(Clone, Copy)]
 pub struct Reader<'a> {
     pub map: &'a [u8],
     pub at: usize,

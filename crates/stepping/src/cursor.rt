@@ -22,7 +22,7 @@ use numbers::refusal::{
 use numbers::var_uint::VarUInt;
 
 // The rules of a part: a stream, the body of a list or a sexp, the body of a struct.
-#[derive(Drop)]
+#[derive(Clone, Copy)]
 pub enum Rules {
     Stream,
     Sequence,
@@ -57,14 +57,14 @@ pub fn part_kind(rules: Rules) -> u64
 }
 
 // A position in a part, and the part's end.
-#[derive(Drop)]
+#[derive(Clone, Copy)]
 pub struct Cursor {
     pub at: usize,
     pub end: usize,
 }
 
 // What a step answers.
-#[derive(Drop)]
+#[derive(Clone, Copy)]
 pub enum Item {
     // Nothing is left; the position is the part's end.
     End {
@@ -89,7 +89,7 @@ pub enum Item {
 }
 
 // Where an answer leaves its caller: behind an item at its end, or nowhere, behind the end and behind a refusal.
-#[derive(Drop)]
+#[derive(Clone, Copy)]
 pub enum Left {
     At(usize),
     Over,
@@ -127,21 +127,21 @@ pub fn is_last(item: Item) -> bool
 }
 
 // An answer, and the cursor for the next step: the one given where the step is refused.
-#[derive(Drop)]
+#[derive(Clone, Copy)]
 pub struct Step {
     pub item: Item,
     pub next: Cursor,
 }
 
 // What the rules of a part want before a pad or a value, its name: in a struct's body a field ID, elsewhere nothing, with 0 for the ID; and where it ends.
-#[derive(Drop)]
+#[derive(Clone, Copy)]
 pub enum Named {
     At { id: usize, next: usize },
     Refused(Refusal),
 }
 
 // What stands at a position: a pad, or what the step answers.
-#[derive(Drop)]
+#[derive(Clone, Copy)]
 enum Tile {
     Pad { body: usize, end: usize },
     Item(Item),

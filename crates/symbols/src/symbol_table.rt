@@ -35,7 +35,7 @@ const FIRST_OWN_ID: usize = 10;
 const STARTS: [usize; 10] = [0, 4, 12, 29, 33, 40, 47, 54, 60, 84];
 
 // Whether a value is a symbol table.
-#[derive(Drop)]
+#[derive(Clone, Copy)]
 enum Table {
     Yes,
     No,
@@ -43,27 +43,27 @@ enum Table {
 }
 
 // What rules: the system's texts alone, or the symbol table with the body start..end.
-#[derive(Drop)]
+#[derive(Clone, Copy)]
 pub enum Ruling {
     System,
     Table { start: usize, end: usize },
 }
 
-#[derive(Drop)]
+#[derive(Clone, Copy)]
 pub enum Ruled {
     By(Ruling),
     Refused(Refusal),
 }
 
 // What an item of the stream makes of what ruled before it: the answer, or where the next step begins and what rules there.
-#[derive(Drop)]
+#[derive(Clone, Copy)]
 enum AfterItem {
     Over(Ruled),
     Further { at: usize, ruling: Ruling },
 }
 
 // What a field of a table makes of the fields before it: whether a field 7 was among them, and the list that it is.
-#[derive(Drop)]
+#[derive(Clone, Copy)]
 enum AfterField {
     Over(Symbols),
     Further { at: usize, met: bool, list: OwnList },

@@ -14,21 +14,21 @@ use numbers::binary_buffer::outside;
 use numbers::refusal::{LIMIT_OUT_OF_RANGE, NOT_THE_SYSTEM_TEXT, OUTSIDE, Refusal};
 
 // The list that gives a table's own texts, by its body start..end.
-#[derive(Drop)]
+#[derive(Clone, Copy)]
 pub enum OwnList {
     NoList,
     List { start: usize, end: usize },
 }
 
 // The list of the table that rules.
-#[derive(Drop)]
+#[derive(Clone, Copy)]
 pub enum Symbols {
     Of(OwnList),
     Refused(Refusal),
 }
 
 // Where a symbol's text lies: nowhere, in the map, or in the system's texts.
-#[derive(Drop)]
+#[derive(Clone, Copy)]
 pub enum SymbolText {
     Unknown,
     Own { start: usize, end: usize },

@@ -19,7 +19,7 @@ use numbers::var_uint::VarUInt;
 
 // How far a timestamp goes (1 year, 2 month, 3 day, 4 minute, 5 second, 6 fraction), its offset's minutes and 1440 or 0
 // where it is unknown, its fields in UTC, absent ones 0, and its fraction's exponent and coefficient.
-#[derive(Drop)]
+#[derive(Clone, Copy)]
 pub struct Stamp {
     pub precision: u8,
     pub offset: u16,
@@ -34,21 +34,21 @@ pub struct Stamp {
     pub coefficient: u64,
 }
 
-#[derive(Drop)]
+#[derive(Clone, Copy)]
 pub enum Timestamp {
     Value(Stamp),
     Refused(Refusal),
 }
 
 // The offset's VarInt.
-#[derive(Drop)]
+#[derive(Clone, Copy)]
 pub struct Offset {
     pub negative: bool,
     pub minutes: usize,
 }
 
 // The fields that were read, how many they are, and 0 for each of the others.
-#[derive(Drop)]
+#[derive(Clone, Copy)]
 pub struct Fields {
     pub count: usize,
     pub year: usize,
@@ -60,7 +60,7 @@ pub struct Fields {
 }
 
 // Whether there is a fraction, its exponent, and its coefficient's sign and magnitude.
-#[derive(Drop)]
+#[derive(Clone, Copy)]
 pub struct Fraction {
     pub present: bool,
     pub exponent_negative: bool,
@@ -237,7 +237,7 @@ fn wide(x: u8) -> u64
 }
 
 // A magnitude of at most 8 bytes without leading zeros, or none.
-#[derive(Drop)]
+#[derive(Clone, Copy)]
 enum Magnitude {
     Value(u64),
     TooLong,
@@ -305,7 +305,7 @@ fn read_fraction(
 }
 
 // The fields as they were read, and where they end.
-#[derive(Drop)]
+#[derive(Clone, Copy)]
 enum FieldsRead {
     Value { fields: Fields, next: usize },
     Refused(Refusal),

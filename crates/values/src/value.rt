@@ -26,14 +26,14 @@ use stepping::cursor::{Cursor, Item, Rules, item_at};
 use timestamps::timestamp::{Stamp, Timestamp, read_timestamp as read_body};
 
 // The body of a container: its rules, and a cursor at its start.
-#[derive(Drop)]
+#[derive(Clone, Copy)]
 pub enum Body {
     Open { rules: Rules, cursor: Cursor },
     Refused(Refusal),
 }
 
 // What a value is read as.
-#[derive(Drop)]
+#[derive(Clone, Copy)]
 pub enum Scalar {
     // A null, by the type code of its type; that of an int is 2.
     Null {
@@ -81,14 +81,14 @@ pub enum Scalar {
 }
 
 // A value's spans with what it is read as.
-#[derive(Drop)]
+#[derive(Clone, Copy)]
 pub enum ValueRead {
     Read { value: EncodedValue, scalar: Scalar },
     Refused(Refusal),
 }
 
 // What a value is read as where timestamps are read.
-#[derive(Drop)]
+#[derive(Clone, Copy)]
 pub enum TimestampRead {
     // A timestamp: where its descriptor stands, and what it says.
     Stamped { descriptor: usize, stamp: Stamp },
@@ -98,7 +98,7 @@ pub enum TimestampRead {
 }
 
 // The bytes start..end of the slice.
-#[derive(Drop)]
+#[derive(Clone, Copy)]
 pub struct Span {
     pub start: usize,
     pub end: usize,

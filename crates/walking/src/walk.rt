@@ -28,7 +28,7 @@ pub const PARTS: usize = MOST_DEPTH + 1;
 
 // Where a walk is: the ends of the parts that it is in, by depth; which of them are bodies of structs; its depth and its position. `deep`: the container at
 // the position was handed out and is too deep to enter.
-#[derive(Drop)]
+#[derive(Clone, Copy)]
 pub struct Walk {
     pub ends: [usize; PARTS],
     pub fields: [bool; PARTS],
@@ -38,7 +38,7 @@ pub struct Walk {
 }
 
 // An answer, the depth at which it was met, and the state for the next call: the one given where the call is refused.
-#[derive(Drop)]
+#[derive(Clone, Copy)]
 pub struct Walked {
     pub depth: usize,
     pub item: Item,
@@ -46,7 +46,7 @@ pub struct Walked {
 }
 
 // What of a state is no array.
-#[derive(Drop)]
+#[derive(Clone, Copy)]
 struct Place {
     depth: usize,
     at: usize,
@@ -54,7 +54,7 @@ struct Place {
 }
 
 // An answer and the depth at which it was met.
-#[derive(Drop)]
+#[derive(Clone, Copy)]
 struct Seen {
     depth: usize,
     item: Item,
@@ -220,7 +220,7 @@ fn look(
 }
 
 // What stands at a position before a part's end: a short value; else its name is read, and what stands behind it is still to be looked at; or its name is refused.
-#[derive(Drop)]
+#[derive(Clone, Copy)]
 enum Met {
     Value(EncodedValue),
     Behind { id: usize, next: usize },

@@ -13,7 +13,7 @@ use numbers::refusal::{NO_ROOM_TO_WRITE, Refusal};
 pub(crate) const MOST_BYTES: usize = 9;
 
 // How many bytes were written, or why nothing was.
-#[derive(Drop)]
+#[derive(Clone, Copy)]
 pub enum Written {
     Length(usize),
     Refused(Refusal),

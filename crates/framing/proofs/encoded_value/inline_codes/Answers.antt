@@ -1,0 +1,11 @@
+-- `inline_codes` meets its contract: one computed test over the table gives its rule at the type code.
+use borrow.Author.Rules.{rules}
+use Rattle.numbers.specs.Descriptor.{kind_of}
+use Rattle.numbers.proofs.Table.{entry}
+use Rattle.framing.specs.Answers.{value_code, bad_float, short_timestamp}
+use Rattle.framing.specs.Private.InlineLengths.{inline_length, has_inline_length, inline_codes}
+use Rattle.framing.proofs.encoded_value.inline_codes.Goals as goal
+
+pub returns : goal.returns
+unfolding inline_codes has_inline_length kind_of value_code bad_float short_timestamp inline_length
+returns c = rw (entry inline_codes, c.requires)
