@@ -1,3 +1,5 @@
 // Steps that count what they pass on the way to their answer.
+#![tactic(auto)]
+
 pub mod counted;
 mod pads;

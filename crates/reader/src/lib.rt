@@ -1,6 +1,8 @@
 // A reader that holds the lent map beside its position, the part's end, the part's kind and the limit of annotation bytes: one thing to pass on.
 //
 // Its functions are thin: each takes it apart, and the work is done by `step_through`, which takes the map and numbers.
+#![tactic(auto)]
+
 ghost use Rattle.std.specs.Prelude.{◌≡◌};
 ghost use Rattle.stepping.specs.Read.{step_read};
 ghost use Rattle.reader.specs.Reading.{step_through};

@@ -1,0 +1,12 @@
+-- `read_name` meets its contract: each arm is the case of its rules.
+use borrow.Author.Rules.{rules}
+use Rattle.stepping.proofs.cursor.read_name.Goals as goal
+
+pub returns-in-Stream : goal.returns-in-Stream
+returns-in-Stream c = rw c.in-Stream.is
+
+pub returns-in-Sequence : goal.returns-in-Sequence
+returns-in-Sequence c = rw c.in-Sequence.is
+
+pub returns-in-Fields : goal.returns-in-Fields
+returns-in-Fields c = rw c.in-Fields.is c.read_field_id.ensures

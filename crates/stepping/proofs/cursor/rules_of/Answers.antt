@@ -1,0 +1,13 @@
+-- `rules_of` meets its contract: its tests are the definition's.
+use borrow.Author.Tests.{eq-eqb, ne_eqb}
+use native.Mathlib.Omega.{arith}
+use Rattle.stepping.proofs.cursor.rules_of.Goals as goal
+
+pub returns-then-kind-eq0 : goal.returns-then-kind-eq0
+returns-then-kind-eq0 c = rw (eq-eqb _ _ c.if-kind-eq0.true)
+
+pub returns-then-kind-eq1 : goal.returns-then-kind-eq1
+returns-then-kind-eq1 c = rw (ne_eqb _ _ c.if-kind-eq0.false, eq-eqb c.args.kind 1 (omega (arith, c.if-kind-eq1.true)))
+
+pub returns : goal.returns
+returns c = rw (ne_eqb _ _ c.if-kind-eq0.false, ne_eqb c.args.kind 1 (omega (arith, c.if-kind-eq1.false)))

@@ -1,0 +1,14 @@
+-- `read_fields` meets its contract: at each turn the places hold what was read, and what is still to be read stands behind it.
+use Prim.Native.Nat.{ℕ, ◌-◌}
+use native.Mathlib.Omega.{arith}
+use borrow.Author.Rules.{rules}
+use mathlib.Core.Path.{◌≡◌, ◌∙◌, sym, ap}
+use Rattle.numbers.specs.Read.{var_uint_read}
+use Rattle.timestamps.proofs.FieldReading.{Progress, progress_start, progress_on, progress_last, progress_refused, progress_done}
+use Rattle.timestamps.proofs.timestamp.read_fields.Given as goal
+
+abbrev pub invariant-loop-count : goal.invariant-loop-count
+invariant-loop-count l = Progress l.s l.end l.at l.values l.count l.from
+
+abbrev pub decreases-loop-count : goal.decreases-loop-count
+decreases-loop-count l = 6 - l.count
