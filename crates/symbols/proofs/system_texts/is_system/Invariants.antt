@@ -1,0 +1,22 @@
+-- `is_system` meets its contract: the bytes passed are the same.
+use borrow.Author.Rules.{rules}
+use Prim.Native.Nat.{ℕ, ◌+◌, ◌-◌, ◌<◌, ◌≤◌}
+use native.Mathlib.Omega.{arith}
+use borrow.Author.Tests.{ltb-true, ltb-false}
+use mathlib.Core.Path.{◌≡◌, refl, ◌∙◌, sym, ap, subst}
+use mathlib.Core.Bool.{true}
+use mathlib.Core.List.{List}
+use lib.ListN.{length, get_or}
+use lib.Seq.{ext_get_or}
+use lib.Dec.{ltb}
+use Rattle.numbers.proofs.Outcomes.{by_case}
+use Rattle.symbols.specs.SystemTexts.{system_texts, system_bytes, same_bytes}
+use Rattle.symbols.proofs.SystemBytes.{same_self, differ}
+use Rattle.symbols.proofs.system_texts.is_system.Given as goal
+
+abbrev pub invariant-loop-i : goal.invariant-loop-i
+invariant-loop-i l =
+    (l.i ≤ 84) × (length l.lent ≡ 84) × (l.texts ≡ system_bytes) × ((j : ℕ) → j < l.i → get_or l.lent j 0 ≡ get_or l.texts j 0)
+
+abbrev pub decreases-loop-i : goal.decreases-loop-i
+decreases-loop-i l = 84 - l.i
