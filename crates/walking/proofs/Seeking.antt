@@ -55,8 +55,8 @@ here limit s w zero at o n h = rw h
 here limit s w (suc d) at o n h = sym (no_end (suc d) (seek limit s w d) o n) ∙ ap (or_above (suc d) (seek limit s w d)) h
 
 -- a step's answer whose variant is not the first is no end
-pub not_end : (x : ItemEnum) → 1 ≤ tag_of the_type x → (p : ℕ) → item_read x ≡ gives (finish p) → ⊥
-not_end (End p) l q e = absurd (omega arith)
+pub not_end : (x : ItemEnum) → ((p : ℕ) → x ≡ End p → ⊥) → (p : ℕ) → item_read x ≡ gives (finish p) → ⊥
+not_end (End p) l q e = absurd (l p refl)
 not_end (Marker a x y f) l q e = absurd (let z : ◌≡◌ {A = ℕ} 0 1 = cc in omega arith)
 not_end (Value v) l q e = absurd (let z : ◌≡◌ {A = ℕ} 0 1 = cc in omega arith)
 not_end (Field id a v) l q e = absurd (let z : ◌≡◌ {A = ℕ} 0 1 = cc in omega arith)
@@ -152,8 +152,8 @@ barred_last limit deepest s w h =
 no_body : (d : ℕ) → pick (eqb d 0) false true ≡ false → d ≡ 0
 no_body d = by_test (λ b. b ≡ false → d ≡ 0) (eqb d 0) (λ z _. eqb-true d 0 z) (λ _ e. absurd (true≢false e))
 
-pub no_end_item : (x : ItemEnum) → 1 ≤ tag_of the_type x → is_end (item_read x) ≡ false
-no_end_item (End p) l = absurd (omega arith)
+pub no_end_item : (x : ItemEnum) → ((p : ℕ) → x ≡ End p → ⊥) → is_end (item_read x) ≡ false
+no_end_item (End p) l = absurd (l p refl)
 no_end_item (Marker a x y f) l = refl
 no_end_item (Value v) l = refl
 no_end_item (Field id a v) l = refl

@@ -47,8 +47,8 @@ module _ (limit deepest : ℕ) (s : List ℕ) where
   fuel : out_of_range limit ≡ false → (k k' : ℕ) (rules : Rules) (d hi at : ℕ) (rest : List Visit) → at ≤ hi → hi ≤ length s → hi - at ≤ k → hi - at ≤ k' → walk_of limit deepest k s rules d hi at rest ≡ walk_of limit deepest k' s rules d hi at rest
   unfolding walk_of
   fuel r zero zero rules d hi at rest l m f g = refl
-  fuel r zero (suc k') rules d hi at rest l m f g = ended rules d at hi rest _ _ r (omega arith) m
-  fuel r (suc k) zero rules d hi at rest l m f g = sym (ended rules d at hi rest _ _ r (omega arith) m)
+  fuel r zero (suc k') rules d hi at rest l m f g = ended rules d at hi rest (walk_of limit deepest k' s) (λ e. walk_of limit deepest k' s rules d hi e rest) r (omega arith) m
+  fuel r (suc k) zero rules d hi at rest l m f g = sym (ended rules d at hi rest (walk_of limit deepest k s) (λ e. walk_of limit deepest k s rules d hi e rest) r (omega arith) m)
   fuel r (suc k) (suc k') rules d hi at rest l m f g =
       following_same deepest d at hi rest (walk_of limit deepest k s) (walk_of limit deepest k' s) (λ e. walk_of limit deepest k s rules d hi e rest) (λ e. walk_of limit deepest k' s rules d hi e rest)
       (λ r' d' e b x p q t. fuel r k k' r' d' e b x q (omega arith) (omega arith) (omega arith))

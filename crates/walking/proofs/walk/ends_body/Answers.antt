@@ -13,13 +13,6 @@ use Rattle.walking.specs.Private.State.{is_end}
 use Rattle.walking.proofs.Seeking.{no_end_item}
 use Rattle.walking.proofs.walk.ends_body.Goals as goal
 
--- one of the variants behind the first
-past_first : (x : ℕ) → OneOf (1 ∷ 2 ∷ 3 ∷ 4 ∷ []) x → 1 ≤ x
-past_first x (inl e) = omega arith
-past_first x (inr (inl e)) = omega arith
-past_first x (inr (inr (inl e))) = omega arith
-past_first x (inr (inr (inr e))) = omega arith
-
 pub returns-then-depth-eq0 : goal.returns-then-depth-eq0
 returns-then-depth-eq0 c = rw (eq-eqb _ _ c.if-depth-eq0.true)
 
@@ -28,4 +21,4 @@ returns-in-End c = rw (ne_eqb _ _ c.if-depth-eq0.false) (sym (ap (λ (x : ItemEn
 
 pub returns-in_default : goal.returns-in_default
 returns-in_default c =
-    rw (ne_eqb _ _ c.if-depth-eq0.false) (sym (no_end_item c.args.item (past_first _ c.in_default.is)))
+    rw (ne_eqb _ _ c.if-depth-eq0.false) (sym (no_end_item c.args.item c.in_default.not-End))

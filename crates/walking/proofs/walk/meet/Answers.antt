@@ -22,35 +22,7 @@ abbrev name : In-At → Unsigned
 name c = record { value = c.in-At.id; next = c.in-At.next }
 
 -- the name that was read
-abbrev name : In-Value → Unsigned
-name-In-Value c = record { value = c.in-At.id; next = c.in-At.next }
-
--- the name that was read
-abbrev name : In-Value → Unsigned
-name-In-Value c = record { value = c.in-At.id; next = c.in-At.next }
-
--- the name that was read
-abbrev name : In-Value → Unsigned
-name-In-Value c = record { value = c.in-At.id; next = c.in-At.next }
-
--- the name that was read
-abbrev name : In-Value → Unsigned
-name-In-Value c = record { value = c.in-At.id; next = c.in-At.next }
-
--- the name that was read
-abbrev name : In-Value → Unsigned
-name-In-Value c = record { value = c.in-At.id; next = c.in-At.next }
-
--- the name that was read
-abbrev name : In-Value → Unsigned
-name-In-Value c = record { value = c.in-At.id; next = c.in-At.next }
-
--- the name that was read
-abbrev name : In-Value → Unsigned
-name-In-Value c = record { value = c.in-At.id; next = c.in-At.next }
-
--- the name that was read
-abbrev name : In-Value → Unsigned
+abbrev name-In-Value : In-Value → Unsigned
 name-In-Value c = record { value = c.in-At.id; next = c.in-At.next }
 
 named : (c : In-At) → let a = c.args in name_at a.rules a.s.now a.at a.end ≡ gives (name c)
