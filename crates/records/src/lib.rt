@@ -1,4 +1,6 @@
 // The records that exported functions fill: their words, the bytes of these, and putting them into a lent buffer.
+#![tactic(auto)]
+
 pub mod buffer;
 pub mod check_record;
 pub mod symbol_words;

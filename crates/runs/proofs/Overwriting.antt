@@ -64,7 +64,7 @@ module _ (limit : ℕ) (s s' : List ℕ) (lo₀ hi₀ : ℕ) (Chosen : Site → 
   bounded x c = bounds (below x c).is
 
   fitted : (x : Site) (c : Chosen x) → Fits hi₀ x.start (below x c).place
-  fitted x c = (nest.fits-part (Standing limit s) (order limit s) (one limit s) (below x c).below).1
+  fitted x c = (nest.fits_part (Standing limit s) (order limit s) (one limit s) (below x c).below).1
 
   lies : (x : Site) (c : Chosen x) {rules : Rules} {lo hi : ℕ} → Part (Rule limit s) lo₀ hi₀ rules lo hi → Placed (Standing limit s) x.start (below x c).place rules lo hi
   lies x c pt = nest.placed (Standing limit s) (order limit s) (one limit s) (below x c).below (nested limit s pt)
@@ -84,7 +84,7 @@ module _ (limit : ℕ) (s s' : List ℕ) (lo₀ hi₀ : ℕ) (Chosen : Site → 
     header_in : {p i : ℕ} {y : Place} → TileOf limit s rules lo hi p y → (x : Site) (c : Chosen x) → p ≤ i → i < y.body → x.start ≤ i → i < x.end → (p ≡ x.start) × (y ≡ (below x c).place)
     header_in t x c l m k n =
         let b = bounded x c in
-        nest.in-header (Standing limit s) (order limit s) (one limit s) (clear x c t.to) t.stands l m k (omega arith)
+        nest.in_header (Standing limit s) (order limit s) (one limit s) (clear x c t.to) t.stands l m k (omega arith)
 
     -- so that what is overwritten of a header are its own annotations
     header_over : {p i : ℕ} {y : Place} → TileOf limit s rules lo hi p y → p ≤ i → i < y.body → Over Chosen i → In y.annotations y.descriptor i
@@ -149,7 +149,7 @@ module _ (limit : ℕ) (s s' : List ℕ) (lo₀ hi₀ : ℕ) (Chosen : Site → 
   -- the stream is outside them
   pub stream_out : OutsideAll Chosen lo₀ hi₀
   stream_out x c w =
-      let u = nest.fits-part (Standing limit s) (order limit s) (one limit s) (below x c).below in
+      let u = nest.fits_part (Standing limit s) (order limit s) (one limit s) (below x c).below in
       let f = u.1 in
       let b = bounded x c in
       omega arith

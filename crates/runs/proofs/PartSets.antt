@@ -37,7 +37,7 @@ module _ (limit : ℕ) (s : List ℕ) (lo₀ hi₀ : ℕ) (rules : Rules) (lo hi
       let e = ap (λ (z : Site). z.end) t.is in
       let e' = ap (λ (z : Site). z.end) u.is in
       let c = nest.clear (Standing limit s) (order limit s) (one limit s) (around (here t.tile.to t.tile.stands)) (λ i. omega arith) u.tile.to in
-      let q = (nest.in-header (Standing limit s) (order limit s) (one limit s) {i = y.start} c u.tile.stands (omega arith) (omega arith) (omega arith) (omega arith)).0 in
+      let q = (nest.in_header (Standing limit s) (order limit s) (one limit s) {i = y.start} c u.tile.stands (omega arith) (omega arith) (omega arith) (omega arith)).0 in
       omega arith
 
 pub parts-are-sets : PartsAreSets

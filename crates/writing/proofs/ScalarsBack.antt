@@ -257,9 +257,9 @@ module _ (limit : ℕ) (s : List ℕ) (start end at : ℕ) (g : out_of_range lim
       read-typed limit s start end at type (length body) g h t.framed ∙ spanned_is s at type body i (λ e. text_moved s at body t.fits t.bytes (text_good type body e j))
 
 pub scalars-back : ScalarsBack
-scalars-back limit deepest at thing x (back.a-null {type = t}) h g s start end l b =
+scalars-back limit deepest at thing x (back.a_null {type = t}) h g s start end l b =
     let m : t ≤ 13 = ltb-false 13 t h.inside in null_read limit s start end at g l t m (nulls-back limit t m s at end b)
-scalars-back limit deepest at thing x (back.a-bool {value = v}) h g s start end l b = bool_read limit s start end at g l v (bools-back limit v s at end b)
+scalars-back limit deepest at thing x (back.a_bool {value = v}) h g s start end l b = bool_read limit s start end at g l v (bools-back limit v s at end b)
 scalars-back limit deepest at thing x (back.an_int {negative = false} {magnitude = m}) h g s start end l b = positive_back limit s start end at g l m (stood limit deepest an_int h s at end b)
 scalars-back limit deepest at thing x (back.an_int {negative = true} {magnitude = m}) h g s start end l b = negative_back limit s start end at g l m (some_magnitude m h.unrefused) (stood limit deepest an_int h s at end b)
 scalars-back limit deepest at thing x (back.a_float {bits = w} k) h g s start end l b = float_back limit s start end at g l w k (stood limit deepest a_float h s at end b)

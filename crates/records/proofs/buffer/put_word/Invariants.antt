@@ -1,0 +1,18 @@
+-- `put_word` meets its contract: with the bytes that are left stored from here on, the buffer is what it is to be.
+use borrow.Author.Rules.{rules}
+use Prim.Native.Nat.{ℕ, suc, ◌+◌, ◌-◌, ◌≤◌, ◌/◌, ◌%◌}
+use native.Mathlib.Omega.{arith}
+use native.Mathlib.Numerals.{add-one}
+use mathlib.Core.Path.{◌≡◌, refl, ◌∙◌, ap}
+use mathlib.Core.List.{List}
+use lib.ListN.{length, set, length-set}
+use lib.Seq.{sets}
+use Rattle.records.specs.Buffer.{little_endian, word_size}
+use Rattle.records.proofs.buffer.put_word.Given as goal
+
+abbrev pub invariant-loop-i : goal.invariant-loop-i
+invariant-loop-i l =
+    (length l.out ≡ length l.initial.out) × (l.at ≤ l.i) × (l.i ≤ l.at + word_size) × (l.at + word_size ≤ length l.initial.out) × (sets l.out l.i (little_endian (l.at + word_size - l.i) l.left) ≡ sets l.initial.out l.at (little_endian word_size l.word))
+
+abbrev pub decreases-loop-i : goal.decreases-loop-i
+decreases-loop-i l = l.at + word_size - l.i
