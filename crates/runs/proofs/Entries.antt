@@ -11,7 +11,7 @@ use prog.Model.{Model}
 use types.Logic.{Logic}
 use contract.Monad.{fact}
 use contract.Lifetimes.{Lfts}
-use contract.Running.{real}
+use contract.Running.{Running, strict}
 use denote.Ref.{Bor}
 use Rattle.numbers.specs.Outcome.{Outcome, gives, refuses}
 use Rattle.framing.specs.Answers.{Annotated, ident, finished, read_annotation}
@@ -39,7 +39,7 @@ use Rattle.values.proofs.value.Scalar.TheLaws as scalar-laws
 use Rattle.values.specs.contracts.value.read as reading
 use Rattle.values.proofs.value.read.Symbol as reading-symbol
 use Rattle.values.proofs.value.read.Met as reading-met
-use Rattle.runs.specs.Program.{Annotates, Enters, Reads}
+use Rattle.runs.specs.Program.{HasEntries, Annotates, Enters, Reads}
 use Rattle.runs.proofs.Machine as machine
 use Rattle.runs.proofs.Machine.{Answered}
 use Rattle.runs.proofs.Values.{num, bit, field, read_refusal, choose}
@@ -183,29 +183,29 @@ scalar_read_lem (Blob a b) = refl
 scalar_read_lem Container = refl
 scalar_read_lem (ScalarRefused e) = refl
 
-module _ {M : Type 1} {𝓤 : Ura M} (𝓛 : Logic 𝓤) (𝓜 : Model 𝓤 𝓛.H) (κs : Lfts 1) where
+module _ {M : Type 1} {𝓤 : Ura M} (𝓛 : Logic 𝓤) (𝓜 : Model 𝓤 𝓛.H) (𝓡 : Running 𝓤 𝓛.H 𝓜) (has : HasEntries 𝓡.env) (κs : Lfts 1) where
   open 𝓛 use {H}
 
-  pub annotation_answers : (s : Bor (List ℕ)) (at end : ℕ) → Answered 𝓛 𝓜 annotation.signature annotation-symbol.routine κs tt annotation-laws.lowers (s, (at, (end, tt))) (λ x. annotation_read x ≡ read_annotation s.now at end)
+  pub annotation_answers : (s : Bor (List ℕ)) (at end : ℕ) → Answered 𝓛 𝓜 annotation.signature (𝓡.env annotation-symbol.name) κs tt annotation-laws.lowers (s, (at, (end, tt))) (λ x. annotation_read x ≡ read_annotation s.now at end)
   annotation_answers s at end =
-      machine.answered 𝓛 𝓜 annotation.ended annotation-symbol.routine (annotation.clauses 𝓛 𝓜.mem (real 𝓤 H 𝓜).run) (annotation-met.met 𝓤 𝓛 𝓜 (real 𝓤 H 𝓜)) κs tt annotation-laws.lowers annotation_read annotation_of annotation_made annotation-read annotation_one
+      machine.answered 𝓛 𝓜 𝓡 annotation.ended (𝓡.env annotation-symbol.name) (annotation.clauses 𝓛 𝓜.mem 𝓡.returns) (annotation-met.met 𝓤 𝓛 𝓜 (strict 𝓤 H 𝓜 𝓡) has.annotation) κs tt annotation-laws.lowers annotation_read annotation_of annotation_made annotation-read annotation_one
       (s, (at, (end, tt))) tt (read_annotation s.now at end) (id⊢ 𝓤 (emp 𝓤)) (λ x ws. id⊢ 𝓤 (fact 𝓤 (annotation_read x ≡ read_annotation s.now at end)))
 
-  pub entering_answers : (limit : ℕ) (s : Bor (List ℕ)) (lo hi at : ℕ) → Answered 𝓛 𝓜 entering.signature entering-symbol.routine κs tt body-laws.lowers (s, (lo, (hi, (at, (limit, tt))))) (λ x. body_read x ≡ step_in limit s.now lo hi at)
+  pub entering_answers : (limit : ℕ) (s : Bor (List ℕ)) (lo hi at : ℕ) → Answered 𝓛 𝓜 entering.signature (𝓡.env entering-symbol.name) κs tt body-laws.lowers (s, (lo, (hi, (at, (limit, tt))))) (λ x. body_read x ≡ step_in limit s.now lo hi at)
   entering_answers limit s lo hi at =
-      machine.answered 𝓛 𝓜 entering.ended entering-symbol.routine (entering.clauses 𝓛 𝓜.mem (real 𝓤 H 𝓜).run) (entering-met.met 𝓤 𝓛 𝓜 (real 𝓤 H 𝓜)) κs tt body-laws.lowers body_read body_of body_made body-read body_one
+      machine.answered 𝓛 𝓜 𝓡 entering.ended (𝓡.env entering-symbol.name) (entering.clauses 𝓛 𝓜.mem 𝓡.returns) (entering-met.met 𝓤 𝓛 𝓜 (strict 𝓤 H 𝓜 𝓡) has.entering) κs tt body-laws.lowers body_read body_of body_made body-read body_one
       (s, (lo, (hi, (at, (limit, tt))))) tt (step_in limit s.now lo hi at) (id⊢ 𝓤 (emp 𝓤)) (λ x ws. id⊢ 𝓤 (fact 𝓤 (body_read x ≡ step_in limit s.now lo hi at)))
 
-  pub reading_answers : (limit : ℕ) (s : Bor (List ℕ)) (lo hi at : ℕ) → Answered 𝓛 𝓜 reading.signature reading-symbol.routine κs tt scalar-laws.lowers (s, (lo, (hi, (at, (limit, tt))))) (λ x. scalar_read x ≡ read_scalar limit s.now lo hi at)
+  pub reading_answers : (limit : ℕ) (s : Bor (List ℕ)) (lo hi at : ℕ) → Answered 𝓛 𝓜 reading.signature (𝓡.env reading-symbol.name) κs tt scalar-laws.lowers (s, (lo, (hi, (at, (limit, tt))))) (λ x. scalar_read x ≡ read_scalar limit s.now lo hi at)
   reading_answers limit s lo hi at =
-      machine.answered 𝓛 𝓜 reading.ended reading-symbol.routine (reading.clauses 𝓛 𝓜.mem (real 𝓤 H 𝓜).run) (reading-met.met 𝓤 𝓛 𝓜 (real 𝓤 H 𝓜)) κs tt scalar-laws.lowers scalar_read scalar-of scalar_made scalar_read_lem scalar_one
+      machine.answered 𝓛 𝓜 𝓡 reading.ended (𝓡.env reading-symbol.name) (reading.clauses 𝓛 𝓜.mem 𝓡.returns) (reading-met.met 𝓤 𝓛 𝓜 (strict 𝓤 H 𝓜 𝓡) has.reading) κs tt scalar-laws.lowers scalar_read scalar-of scalar_made scalar_read_lem scalar_one
       (s, (lo, (hi, (at, (limit, tt))))) tt (read_scalar limit s.now lo hi at) (id⊢ 𝓤 (emp 𝓤)) (λ x ws. id⊢ 𝓤 (fact 𝓤 (scalar_read x ≡ read_scalar limit s.now lo hi at)))
 
-  pub annotates : (s : Bor (List ℕ)) (end at : ℕ) (o : Outcome Annotated) → Annotates 𝓛 𝓜 κs s end at o → o ≡ read_annotation s.now at end
+  pub annotates : (s : Bor (List ℕ)) (end at : ℕ) (o : Outcome Annotated) → Annotates 𝓛 𝓜 𝓡.env κs s end at o → o ≡ read_annotation s.now at end
   annotates s end at o p = sym p.2 ∙ (annotation_answers s at end).returned p.0 p.1
 
-  pub enters : (limit : ℕ) (s : Bor (List ℕ)) (lo hi at : ℕ) (o : Outcome Opened) → Enters 𝓛 𝓜 κs limit s lo hi at o → o ≡ step_in limit s.now lo hi at
+  pub enters : (limit : ℕ) (s : Bor (List ℕ)) (lo hi at : ℕ) (o : Outcome Opened) → Enters 𝓛 𝓜 𝓡.env κs limit s lo hi at o → o ≡ step_in limit s.now lo hi at
   enters limit s lo hi at o p = sym p.2 ∙ (entering_answers limit s lo hi at).returned p.0 p.1
 
-  pub reads : (limit : ℕ) (s : Bor (List ℕ)) (lo hi at : ℕ) (o : Outcome Scalar) → Reads 𝓛 𝓜 κs limit s lo hi at o → o ≡ read_scalar limit s.now lo hi at
+  pub reads : (limit : ℕ) (s : Bor (List ℕ)) (lo hi at : ℕ) (o : Outcome Scalar) → Reads 𝓛 𝓜 𝓡.env κs limit s lo hi at o → o ≡ read_scalar limit s.now lo hi at
   reads limit s lo hi at o p = sym p.2 ∙ (reading_answers limit s lo hi at).returned p.0 p.1

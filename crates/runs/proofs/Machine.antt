@@ -10,10 +10,10 @@ use base.Stored.{Coded-set}
 use mir.Val.{Val, vunit}
 use prog.Memory.{Memory}
 use prog.Model.{Model}
-use prog.Routine.{Routine, ends, ends-one, any_name}
+use prog.Routine.{Routine, ends, ends-one, any_callee}
 use contract.Monad.{fact, fact_mono}
 use contract.Lifetimes.{Lfts, Shares, AllOutlive}
-use contract.Running.{tables, real}
+use contract.Running.{Running, tables, strict}
 use contract.Adequate.{sat_weaken, sat_⇛, sat_fact}
 use denote.RattleType.{RattleType, flat}
 use denote.Signature.{Signature, type_at, types_at}
@@ -37,10 +37,10 @@ unfolding first
 only_value R L x v p = ap first (L.val_is x (v ∷ []) p)
 
 -- S is the function's signature and ρ its routine, and L says the machine's value of each result
-module _ {M : Type 1} {𝓤 : Ura M} (𝓛 : Logic 𝓤) (𝓜 : Model 𝓤 𝓛.H) (S : Signature) (ρ : Routine) (κs : Lfts S.lifetimes) (bounds : AllOutlive S.lifetimes S.outlives κs) (L : Lowered (type_at S.result κs)) where
+module _ {M : Type 1} {𝓤 : Ura M} (𝓛 : Logic 𝓤) (𝓜 : Model 𝓤 𝓛.H) (𝓡 : Running 𝓤 𝓛.H 𝓜) (S : Signature) (ρ : Routine) (κs : Lfts S.lifetimes) (bounds : AllOutlive S.lifetimes S.outlives κs) (L : Lowered (type_at S.result κs)) where
   open 𝓛 use {H}
 
-  module _ (a : Args S κs) (r : Res S κs) (gives : Bracket 𝓛 S ((real 𝓤 H 𝓜).run ρ) κs a r) where
+  module _ (a : Args S κs) (r : Res S κs) (gives : Bracket 𝓛 S (𝓡.returns ρ) κs a r) where
     -- a call ends, and returns the machine's value of what the contract says
     pub returns : (σ : Memory) (vss : Vals S κs) → Passed 𝓛 𝓜 S ρ κs bounds L σ a vss → ∥ ((σ' : Memory) × ends ρ (flat (types_at S.params κs) vss) σ (L.lowered r) σ') ∥₁
     returns σ vss passed =
@@ -51,7 +51,7 @@ module _ {M : Type 1} {𝓤 : Ura M} (𝓛 : Logic 𝓤) (𝓜 : Model 𝓤 𝓛
         let Ow : Val → SProp 𝓤 = λ v. sem 𝓛 (R.own_val r (v ∷ [])) in
         let Own : Val → SProp 𝓤 = λ v. sep 𝓤 Al (Ow v) in
         ∥∥₁_elim
-        (adequate 𝓤 H 𝓜 (tables 𝓤 H 𝓜 (real 𝓤 H 𝓜) (λ _. ρ)) any_name (bracket_of 𝓛 S κs a r) gives (qs, bounds, vss) σ (emp 𝓤)
+        (adequate 𝓤 H 𝓜 (tables 𝓤 H 𝓜 (strict 𝓤 H 𝓜 𝓡) (λ _. ρ)) ((λ s o. o), tt) any_callee (bracket_of 𝓛 S κs a r) gives (qs, bounds, vss) σ (emp 𝓤)
         (sat_weaken 𝓤 H 𝓜 σ (beside 𝓤 E (emp 𝓤) (id⊢ 𝓤 (emp 𝓤))) passed.1))
         ∥∥₁_prop (λ t.
         let v : Val = t.1 in
@@ -77,20 +77,20 @@ pub record Answered {M : Type 1} {𝓤 : Ura M} (𝓛 : Logic 𝓤) (𝓜 : Mode
 
 -- the same from a function's own theorem: T is its signature with what ends with its borrows, cl its clauses, met its theorem. Where its contract says what its
 -- result is read as, and that reading has an inverse, whatever the machine returned is read so, and every call ends and returns what is read so.
-module _ {M : Type 1} {𝓤 : Ura M} (𝓛 : Logic 𝓤) (𝓜 : Model 𝓤 𝓛.H) (T : Ended) (ρ : Routine) (cl : Clauses 𝓤 T) (met : Meets 𝓛 T.signature ((real 𝓤 𝓛.H 𝓜).run ρ) (closing 𝓛 T cl)) (κs : Lfts T.signature.lifetimes) (bounds : AllOutlive T.signature.lifetimes T.signature.outlives κs) (L : Lowered (type_at T.signature.result κs)) where
+module _ {M : Type 1} {𝓤 : Ura M} (𝓛 : Logic 𝓤) (𝓜 : Model 𝓤 𝓛.H) (𝓡 : Running 𝓤 𝓛.H 𝓜) (T : Ended) (ρ : Routine) (cl : Clauses 𝓤 T) (met : Meets 𝓛 T.signature (𝓡.returns ρ) (closing 𝓛 T cl)) (κs : Lfts T.signature.lifetimes) (bounds : AllOutlive T.signature.lifetimes T.signature.outlives κs) (L : Lowered (type_at T.signature.result κs)) where
   open 𝓛 use {H}
 
   module _ {X : Type 0} (read : Res T.signature κs → X) (made : X → Res T.signature κs) (read_made : (x : X) → read (made x) ≡ x) (made-read : (y : Res T.signature κs) → made (read y) ≡ y) (inj : (y z : Res T.signature κs) → L.lowered y ≡ L.lowered z → y ≡ z) where
     module _ (a : Args T.signature κs) (g : (cl κs a).ghost) (x : X) (pre : ent 𝓤 (emp 𝓤) ((cl κs a).requires g)) (tells : (y : Res T.signature κs) (ws : Lasts T κs a) → ent 𝓤 ((cl κs a).ensures g y (at_exit T κs a ws)) (fact 𝓤 (read y ≡ x))) where
-      meets : Bracket 𝓛 T.signature ((real 𝓤 H 𝓜).run ρ) κs a (made x)
+      meets : Bracket 𝓛 T.signature (𝓡.returns ρ) κs a (made x)
       meets =
-          of_spec 𝓛 T ((real 𝓤 H 𝓜).run ρ) (routine_mono 𝓤 H 𝓜 (real 𝓤 H 𝓜) ρ) cl met κs a g (made x) pre (λ z ws.
+          of_spec 𝓛 T (𝓡.returns ρ) (routine_mono 𝓤 H 𝓜 (strict 𝓤 H 𝓜 𝓡) ρ) cl met κs a g (made x) pre (λ z ws.
           via 𝓤 (fact 𝓤 (read z ≡ x)) (tells z ws) (fact_mono 𝓤 (read z ≡ x) (z ≡ made x) (λ e. sym (made-read z) ∙ ap made e)))
 
       pub answered : Answered 𝓛 𝓜 T.signature ρ κs bounds L a (λ y. read y ≡ x)
       answered =
           record {
-            returned = λ y back. ap read (returned 𝓛 𝓜 T.signature ρ κs bounds L a (made x) meets inj y back) ∙ read_made x;
+            returned = λ y back. ap read (returned 𝓛 𝓜 𝓡 T.signature ρ κs bounds L a (made x) meets inj y back) ∙ read_made x;
             ends = λ σ vss passed.
-                ∥∥₁_map (returns 𝓛 𝓜 T.signature ρ κs bounds L a (made x) meets σ vss passed) (λ t. (made x, read_made x, t.0, t.1));
+                ∥∥₁_map (returns 𝓛 𝓜 𝓡 T.signature ρ κs bounds L a (made x) meets σ vss passed) (λ t. (made x, read_made x, t.0, t.1));
           }

@@ -70,7 +70,7 @@ module _ (Tile : Rules → ℕ → ℕ → Place → Type 0) where
     own : p ≡ a → Tile rules hi p z → Clear a z rules hi p
 
   -- a tile that is below a part is below the part that this is below
-  pub lift : {rules₀ rules : Rules} {lo₀ hi₀ lo hi a : ℕ} {z : Place} → Nest rules₀ lo₀ hi₀ rules lo hi → Under a z rules lo hi → Under a z rules₀ lo₀ hi₀
+  pub lift : {rules₀ : Rules} {lo₀ hi₀ : ℕ} {rules : Rules} {lo hi a : ℕ} {z : Place} → Nest rules₀ lo₀ hi₀ rules lo hi → Under a z rules lo hi → Under a z rules₀ lo₀ hi₀
   lift whole u = u
   lift (inner n f t o) u = lift n (deeper f t o u)
 
@@ -96,9 +96,9 @@ module _ (Tile : Rules → ℕ → ℕ → Place → Type 0) where
         let l = ahead f in let o = same_end rules hi p x y t t' in inr (omega arith)
 
     -- a tile below a part, with its span
-    pub fits_part : {rules : Rules} {a lo hi : ℕ} {z : Place} → Under a z rules lo hi → (lo ≤ a) × Fits hi a z
-    fits_part {rules} {a} {z = z} (here {lo = lo} {hi} f t) = (ahead f, order rules hi a z t)
-    fits_part {rules} {a} {z = z} (deeper {lo = lo} {hi} {q} {y} f t o u) =
+    pub fits_part : {a : ℕ} {z : Place} {rules : Rules} {lo hi : ℕ} → Under a z rules lo hi → (lo ≤ a) × Fits hi a z
+    fits_part {a} {z} {rules} (here {lo = lo} {hi} f t) = (ahead f, order rules hi a z t)
+    fits_part {a} {z} {rules} (deeper {lo = lo} {hi} {q} {y} f t o u) =
         let w = order rules hi q y t in
         let l = ahead f in
         let i = fits_part u in
@@ -142,7 +142,7 @@ module _ (Tile : Rules → ℕ → ℕ → Place → Type 0) where
     tile_placed (around v) g u = tile_under v g u
 
     -- every part below the whole lies so to a tile below it
-    pub placed : {rules₀ rules : Rules} {lo₀ hi₀ lo hi a : ℕ} {z : Place} → Under a z rules₀ lo₀ hi₀ → Nest rules₀ lo₀ hi₀ rules lo hi → Placed a z rules lo hi
+    pub placed : {a : ℕ} {z : Place} {rules₀ : Rules} {lo₀ hi₀ : ℕ} {rules : Rules} {lo hi : ℕ} → Under a z rules₀ lo₀ hi₀ → Nest rules₀ lo₀ hi₀ rules lo hi → Placed a z rules lo hi
     placed u whole = around u
     placed {a = a} {z = z} u (inner {rules} {lo} {hi} {p} {x} n f t o) = go (tile_placed (placed u n) f t)
       where

@@ -12,7 +12,7 @@ use prog.Model.{Model}
 use types.Logic.{Logic}
 use contract.Monad.{fact}
 use contract.Lifetimes.{Lfts}
-use contract.Running.{real}
+use contract.Running.{Running, strict}
 use denote.Ref.{Bor}
 use Rattle.numbers.specs.Outcome.{Outcome, gives, refuses}
 use Rattle.framing.specs.Spans.{Spans}
@@ -36,7 +36,7 @@ use Rattle.runs.proofs.Values.{num, parts, nth, read_refusal, choose}
 use Rattle.stepping.proofs.Tiling.{tiling}
 use Rattle.runs.proofs.Overwriting.{overwriting}
 use Rattle.runs.proofs.OneBody.{Stands, by_rules, one_of_many}
-use Rattle.runs.specs.Program.{Program, BytesRead, ByProgram, ProgramTiling, ProgramOverwriting, ProgramOneBody, StepEnds, ProgramEnds}
+use Rattle.runs.specs.Program.{HasEntries, Program, BytesRead, ByProgram, ProgramTiling, ProgramOverwriting, ProgramOneBody, StepEnds, ProgramEnds}
 use Rattle.runs.proofs.Entries.{annotates, enters, reads, annotation_answers, entering_answers, reading_answers}
 use Rattle.stepping.proofs.cursor.Step.TheLaws.{lowered, lowers}
 use Rattle.stepping.specs.contracts.cursor.Cursor.next_in_stream as in-stream
@@ -146,86 +146,86 @@ either {ℓ} : {A B : Type ℓ} {C D : Type 0} → (A → C) → (B → D) → A
 either f g (inl a) = inl (f a)
 either f g (inr b) = inr (g b)
 
-module _ {M : Type 1} {𝓤 : Ura M} (𝓛 : Logic 𝓤) (𝓜 : Model 𝓤 𝓛.H) (κs : Lfts 1) where
+module _ {M : Type 1} {𝓤 : Ura M} (𝓛 : Logic 𝓤) (𝓜 : Model 𝓤 𝓛.H) (𝓡 : Running 𝓤 𝓛.H 𝓜) (has : HasEntries 𝓡.env) (κs : Lfts 1) where
   -- the machine's answers to the three methods, and that each call ends: from their theorems
   open 𝓛 use {H}
 
-  in_stream_answers : (limit : ℕ) (s : Bor (List ℕ)) (c : Cursor) → Answered 𝓛 𝓜 in-stream.signature in-stream-symbol.routine κs tt lowers (c, (s, (limit, tt))) (λ x. step_read x ≡ step_of limit Stream s.now c)
+  in_stream_answers : (limit : ℕ) (s : Bor (List ℕ)) (c : Cursor) → Answered 𝓛 𝓜 in-stream.signature (𝓡.env in-stream-symbol.name) κs tt lowers (c, (s, (limit, tt))) (λ x. step_read x ≡ step_of limit Stream s.now c)
   in_stream_answers limit s c =
-      machine.answered 𝓛 𝓜 in-stream.ended in-stream-symbol.routine (in-stream.clauses 𝓛 𝓜.mem (real 𝓤 H 𝓜).run) (in-stream-met.met 𝓤 𝓛 𝓜 (real 𝓤 H 𝓜)) κs tt lowers step_read made read_made made_read one_value
+      machine.answered 𝓛 𝓜 𝓡 in-stream.ended (𝓡.env in-stream-symbol.name) (in-stream.clauses 𝓛 𝓜.mem 𝓡.returns) (in-stream-met.met 𝓤 𝓛 𝓜 (strict 𝓤 H 𝓜 𝓡) has.in_stream) κs tt lowers step_read made read_made made_read one_value
       (c, (s, (limit, tt))) tt (step_of limit Stream s.now c) (id⊢ 𝓤 (emp 𝓤)) (λ x ws. id⊢ 𝓤 (fact 𝓤 (step_read x ≡ step_of limit Stream s.now c)))
 
-  in_sequence_answers : (limit : ℕ) (s : Bor (List ℕ)) (c : Cursor) → Answered 𝓛 𝓜 in-sequence.signature in-sequence-symbol.routine κs tt lowers (c, (s, (limit, tt))) (λ x. step_read x ≡ step_of limit Sequence s.now c)
+  in_sequence_answers : (limit : ℕ) (s : Bor (List ℕ)) (c : Cursor) → Answered 𝓛 𝓜 in-sequence.signature (𝓡.env in-sequence-symbol.name) κs tt lowers (c, (s, (limit, tt))) (λ x. step_read x ≡ step_of limit Sequence s.now c)
   in_sequence_answers limit s c =
-      machine.answered 𝓛 𝓜 in-sequence.ended in-sequence-symbol.routine (in-sequence.clauses 𝓛 𝓜.mem (real 𝓤 H 𝓜).run) (in-sequence-met.met 𝓤 𝓛 𝓜 (real 𝓤 H 𝓜)) κs tt lowers step_read made read_made made_read one_value
+      machine.answered 𝓛 𝓜 𝓡 in-sequence.ended (𝓡.env in-sequence-symbol.name) (in-sequence.clauses 𝓛 𝓜.mem 𝓡.returns) (in-sequence-met.met 𝓤 𝓛 𝓜 (strict 𝓤 H 𝓜 𝓡) has.in_sequence) κs tt lowers step_read made read_made made_read one_value
       (c, (s, (limit, tt))) tt (step_of limit Sequence s.now c) (id⊢ 𝓤 (emp 𝓤)) (λ x ws. id⊢ 𝓤 (fact 𝓤 (step_read x ≡ step_of limit Sequence s.now c)))
 
-  in_struct_answers : (limit : ℕ) (s : Bor (List ℕ)) (c : Cursor) → Answered 𝓛 𝓜 in_struct.signature in-struct-symbol.routine κs tt lowers (c, (s, (limit, tt))) (λ x. step_read x ≡ step_of limit Fields s.now c)
+  in_struct_answers : (limit : ℕ) (s : Bor (List ℕ)) (c : Cursor) → Answered 𝓛 𝓜 in_struct.signature (𝓡.env in-struct-symbol.name) κs tt lowers (c, (s, (limit, tt))) (λ x. step_read x ≡ step_of limit Fields s.now c)
   in_struct_answers limit s c =
-      machine.answered 𝓛 𝓜 in_struct.ended in-struct-symbol.routine (in_struct.clauses 𝓛 𝓜.mem (real 𝓤 H 𝓜).run) (in-struct-met.met 𝓤 𝓛 𝓜 (real 𝓤 H 𝓜)) κs tt lowers step_read made read_made made_read one_value
+      machine.answered 𝓛 𝓜 𝓡 in_struct.ended (𝓡.env in-struct-symbol.name) (in_struct.clauses 𝓛 𝓜.mem 𝓡.returns) (in-struct-met.met 𝓤 𝓛 𝓜 (strict 𝓤 H 𝓜 𝓡) has.in_struct) κs tt lowers step_read made read_made made_read one_value
       (c, (s, (limit, tt))) tt (step_of limit Fields s.now c) (id⊢ 𝓤 (emp 𝓤)) (λ x ws. id⊢ 𝓤 (fact 𝓤 (step_read x ≡ step_of limit Fields s.now c)))
 
   -- each answer of the program is the one that the rules define
-  pub answers : (limit : ℕ) (rules : Rules) (s : Bor (List ℕ)) (c : Cursor) (r : Stepped) → Program 𝓛 𝓜 κs limit rules s c r → Answers limit rules s.now c r
+  pub answers : (limit : ℕ) (rules : Rules) (s : Bor (List ℕ)) (c : Cursor) (r : Stepped) → Program 𝓛 𝓜 𝓡.env κs limit rules s c r → Answers limit rules s.now c r
   answers limit Stream s c r p = sym p.2 ∙ (in_stream_answers limit s c).returned p.0 p.1
   answers limit Sequence s c r p = sym p.2 ∙ (in_sequence_answers limit s c).returned p.0 p.1
   answers limit Fields s c r p = sym p.2 ∙ (in_struct_answers limit s c).returned p.0 p.1
 
   -- and each call ends with it
-  step_ends : (limit : ℕ) (rules : Rules) (s : Bor (List ℕ)) (c : Cursor) → StepEnds 𝓛 𝓜 κs limit rules s c
+  step_ends : (limit : ℕ) (rules : Rules) (s : Bor (List ℕ)) (c : Cursor) → StepEnds 𝓛 𝓜 𝓡.env κs limit rules s c
   step_ends limit Stream s c = (in_stream_answers limit s c).ends
   step_ends limit Sequence s c = (in_sequence_answers limit s c).ends
   step_ends limit Fields s c = (in_struct_answers limit s c).ends
 
-  pub program_ends : ProgramEnds 𝓛 𝓜 κs
+  pub program_ends : ProgramEnds 𝓛 𝓜 𝓡.env κs
   program_ends =
       record {
         steps = step_ends;
-        annotation = λ s at end. (annotation_answers 𝓛 𝓜 κs s at end).ends;
-        entering = λ limit s lo hi at. (entering_answers 𝓛 𝓜 κs limit s lo hi at).ends;
-        reading = λ limit s lo hi at. (reading_answers 𝓛 𝓜 κs limit s lo hi at).ends;
+        annotation = λ s at end. (annotation_answers 𝓛 𝓜 𝓡 has κs s at end).ends;
+        entering = λ limit s lo hi at. (entering_answers 𝓛 𝓜 𝓡 has κs limit s lo hi at).ends;
+        reading = λ limit s lo hi at. (reading_answers 𝓛 𝓜 𝓡 has κs limit s lo hi at).ends;
       }
 
-  pub program_tiling : ProgramTiling 𝓛 𝓜 κs
+  pub program_tiling : ProgramTiling 𝓛 𝓜 𝓡.env κs
   program_tiling limit rules s lo hi rs run = tiling limit rules s.now lo hi rs (map-run (answers limit rules s) run)
 
-  bytes_read : (limit : ℕ) (s : Bor (List ℕ)) (lo hi at : ℕ) (r : List ℕ) → BytesRead 𝓛 𝓜 κs limit s lo hi at r → r ≡ scalar_part limit s.now lo hi at
+  bytes_read : (limit : ℕ) (s : Bor (List ℕ)) (lo hi at : ℕ) (r : List ℕ) → BytesRead 𝓛 𝓜 𝓡.env κs limit s lo hi at r → r ≡ scalar_part limit s.now lo hi at
   unfolding scalar_part
-  bytes_read limit s lo hi at r p = p.2 ∙ ap (part_of s.now) (reads 𝓛 𝓜 κs limit s lo hi at p.0 p.1)
+  bytes_read limit s lo hi at r p = p.2 ∙ ap (part_of s.now) (reads 𝓛 𝓜 𝓡 has κs limit s lo hi at p.0 p.1)
 
   -- what the program's answers reach and hand out, they do by the rules
   module _ (limit : ℕ) (s : Bor (List ℕ)) where
-    on : (rules : Rules) (c : Cursor) (r : Stepped) → Program 𝓛 𝓜 κs limit rules s c r → Answers limit rules s.now c r
+    on : (rules : Rules) (c : Cursor) (r : Stepped) → Program 𝓛 𝓜 𝓡.env κs limit rules s c r → Answers limit rules s.now c r
     on rules = answers limit rules s
 
-    by_program : Stands (ByProgram 𝓛 𝓜 κs limit s)
+    by_program : Stands (ByProgram 𝓛 𝓜 𝓡.env κs limit s)
     by_program =
         record {
           value = λ rules lo hi rs i v k run m. (by_rules limit s.now).value rules lo hi rs i v k (map-run (on rules) run) m;
           pad = λ rules lo hi rs p run m. (by_rules limit s.now).pad rules lo hi rs p (map-run (on rules) run) m;
         }
 
-    site : {lo₀ hi₀ : ℕ} {x : Site} → ReachedSite limit s.now (ByProgram 𝓛 𝓜 κs limit s).step lo₀ hi₀ x → ReachedSite limit s.now (ByRules limit s.now).step lo₀ hi₀ x
+    site : {lo₀ hi₀ : ℕ} {x : Site} → ReachedSite limit s.now (ByProgram 𝓛 𝓜 𝓡.env κs limit s).step lo₀ hi₀ x → ReachedSite limit s.now (ByRules limit s.now).step lo₀ hi₀ x
     site (reached_value h k) = reached_value (map-handed on h) k
     site (reached_pad {rules} h) =
         reached_pad (record { part = map-part on h.part; calls = h.calls; run = map-run (on rules) h.run; among = h.among })
 
-  pub program_overwriting : ProgramOverwriting 𝓛 𝓜 κs
+  pub program_overwriting : ProgramOverwriting 𝓛 𝓜 𝓡.env κs
   program_overwriting limit s s' lo₀ hi₀ Chosen sites agree =
       record {
         steps = λ rules lo hi pt out rs rs' c. same.steps rules lo hi (part pt) out rs rs' (calls c);
         pads = λ rules lo hi pt out rs rs' c. same.pads rules lo hi (part pt) out rs rs' (calls c);
         annotations = λ rules lo hi v h bytes rs rs' n run run'.
             same.annotations rules lo hi v (valued h) bytes rs rs' n
-            (map-annotations (annotates 𝓛 𝓜 κs s v.descriptor) run) (map-annotations (annotates 𝓛 𝓜 κs s' v.descriptor) run');
+            (map-annotations (annotates 𝓛 𝓜 𝓡 has κs s v.descriptor) run) (map-annotations (annotates 𝓛 𝓜 𝓡 has κs s' v.descriptor) run');
         identifiers = λ rules lo hi v h at bytes r r' a a'.
             same.identifiers rules lo hi v (valued h) at bytes r r'
-            (annotates 𝓛 𝓜 κs s v.descriptor at r a) (annotates 𝓛 𝓜 κs s' v.descriptor at r' a');
+            (annotates 𝓛 𝓜 𝓡 has κs s v.descriptor at r a) (annotates 𝓛 𝓜 𝓡 has κs s' v.descriptor at r' a');
         kept = λ rules lo hi v h other. same.kept rules lo hi v (valued h) other;
         enterings = λ rules lo hi v h at entry r r' a a'.
-            same.enterings rules lo hi v (valued h) at entry r r' (enters 𝓛 𝓜 κs limit s lo hi at r a) (enters 𝓛 𝓜 κs limit s' lo hi at r' a');
+            same.enterings rules lo hi v (valued h) at entry r r' (enters 𝓛 𝓜 𝓡 has κs limit s lo hi at r a) (enters 𝓛 𝓜 𝓡 has κs limit s' lo hi at r' a');
         readings = λ rules lo hi v h other at entry r r' a a'.
-            same.readings rules lo hi v (valued h) other at entry r r' (reads 𝓛 𝓜 κs limit s lo hi at r a) (reads 𝓛 𝓜 κs limit s' lo hi at r' a');
+            same.readings rules lo hi v (valued h) other at entry r r' (reads 𝓛 𝓜 𝓡 has κs limit s lo hi at r a) (reads 𝓛 𝓜 𝓡 has κs limit s' lo hi at r' a');
         parts = λ rules lo hi v h other at entry r r' a a'.
             same.parts rules lo hi v (valued h) other at entry r r' (bytes_read limit s lo hi at r a) (bytes_read limit s' lo hi at r' a');
         owner = λ rules lo hi pt i v k x rs rs' c. same.owner rules lo hi (part pt) i v k x rs rs' (calls c);
@@ -237,16 +237,16 @@ module _ {M : Type 1} {𝓤 : Ura M} (𝓛 : Logic 𝓤) (𝓜 : Model 𝓤 𝓛
           (overwriting limit s.now s'.now lo₀ hi₀ Chosen
           (record { reached = λ x c. site limit s (sites.reached x c); none_inside = sites.none_inside }) agree).1
 
-      part : {rules : Rules} {lo hi : ℕ} → EitherPart (ByProgram 𝓛 𝓜 κs limit s) (ByProgram 𝓛 𝓜 κs limit s') lo₀ hi₀ rules lo hi → EitherPart (ByRules limit s.now) (ByRules limit s'.now) lo₀ hi₀ rules lo hi
+      part : {rules : Rules} {lo hi : ℕ} → EitherPart (ByProgram 𝓛 𝓜 𝓡.env κs limit s) (ByProgram 𝓛 𝓜 𝓡.env κs limit s') lo₀ hi₀ rules lo hi → EitherPart (ByRules limit s.now) (ByRules limit s'.now) lo₀ hi₀ rules lo hi
       part pt = either (map-part (on limit s)) (map-part (on limit s')) pt
 
-      valued : {rules : Rules} {lo hi : ℕ} {v : Spans} → ValueOutside (ByProgram 𝓛 𝓜 κs limit s) (ByProgram 𝓛 𝓜 κs limit s') lo₀ hi₀ Chosen rules lo hi v → ValueOutside (ByRules limit s.now) (ByRules limit s'.now) lo₀ hi₀ Chosen rules lo hi v
+      valued : {rules : Rules} {lo hi : ℕ} {v : Spans} → ValueOutside (ByProgram 𝓛 𝓜 𝓡.env κs limit s) (ByProgram 𝓛 𝓜 𝓡.env κs limit s') lo₀ hi₀ Chosen rules lo hi v → ValueOutside (ByRules limit s.now) (ByRules limit s'.now) lo₀ hi₀ Chosen rules lo hi v
       valued h = record { item = h.item; handed = either (map-handed (on limit s)) (map-handed (on limit s')) h.handed; is = h.is; outside = h.outside }
 
-      calls : {rules : Rules} {lo hi : ℕ} {rs rs' : List Stepped} → Calls (ByProgram 𝓛 𝓜 κs limit s) (ByProgram 𝓛 𝓜 κs limit s') lo₀ hi₀ rules lo hi rs rs' → Calls (ByRules limit s.now) (ByRules limit s'.now) lo₀ hi₀ rules lo hi rs rs'
+      calls : {rules : Rules} {lo hi : ℕ} {rs rs' : List Stepped} → Calls (ByProgram 𝓛 𝓜 𝓡.env κs limit s) (ByProgram 𝓛 𝓜 𝓡.env κs limit s') lo₀ hi₀ rules lo hi rs rs' → Calls (ByRules limit s.now) (ByRules limit s'.now) lo₀ hi₀ rules lo hi rs rs'
       calls {rules} c = record { many = c.many; run = map-run (on limit s rules) c.run; run' = map-run (on limit s' rules) c.run' }
 
-  pub program_one_body : ProgramOneBody 𝓛 𝓜 κs
+  pub program_one_body : ProgramOneBody 𝓛 𝓜 𝓡.env κs
   program_one_body limit s s' lo₀ hi₀ b e =
-      one_of_many (ByProgram 𝓛 𝓜 κs limit s) (ByProgram 𝓛 𝓜 κs limit s') (by_program limit s) (by_program limit s') lo₀ hi₀
+      one_of_many (ByProgram 𝓛 𝓜 𝓡.env κs limit s) (ByProgram 𝓛 𝓜 𝓡.env κs limit s') (by_program limit s) (by_program limit s') lo₀ hi₀
       (program_overwriting limit s s' lo₀ hi₀)

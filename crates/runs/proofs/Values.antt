@@ -3,7 +3,7 @@
 use Prim.Native.Nat.{ℕ, zero, suc}
 use mathlib.Core.Bool.{Bool, false}
 use mathlib.Core.List.{List, [], ◌∷◌}
-use mir.Val.{Val, Vals, vunit, vbool, vint, vfloat, vptr, vstruct, vnil, vcons}
+use mir.Val.{Val, Vals, vunit, vbool, vint, vfloat, vptr, vstruct, vcode, vnil, vcons}
 use Rattle.numbers.specs.declared.refusal.Refusal.{Refusal}
 
 -- a number, a bool and a struct's parts, as the machine has them
@@ -14,6 +14,7 @@ num (vint w n) = n
 num (vfloat f x) = 0
 num (vptr k o) = 0
 num (vstruct vs) = 0
+num (vcode k) = 0
 
 abbrev pub bit : Val → Bool
 bit vunit = false
@@ -22,6 +23,7 @@ bit (vint w n) = false
 bit (vfloat f x) = false
 bit (vptr k o) = false
 bit (vstruct vs) = false
+bit (vcode k) = false
 
 abbrev pub parts : Val → Vals
 parts vunit = vnil
@@ -30,6 +32,7 @@ parts (vint w n) = vnil
 parts (vfloat f x) = vnil
 parts (vptr k o) = vnil
 parts (vstruct vs) = vs
+parts (vcode k) = vnil
 
 abbrev pub nth : ℕ → Vals → Val
 nth k vnil = vunit

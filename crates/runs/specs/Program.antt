@@ -1,9 +1,12 @@
 -- The program's own answers: what the machine returned to calls of the six entries, and that each call ends. The theorems on runs, of these: `program-tiling`,
--- `program-overwriting`, `program-one-body` and `program-ends` of proofs/Program.antt. As a function's statement is, they are for every model of the machine.
+-- `program-overwriting`, `program-one-body` and `program-ends` of proofs/Program.antt. As a function's statement is, they are for
+-- every model of the machine and every environment that has the functions' code.
 -- Assumes nothing.
 use Rattle.std.specs.Prelude.{ℕ, ◌≡◌, List}
 use seplogic.Ra.Ura.{Ura}
 use prog.Model.{Model}
+use prog.Routine.{Env}
+use prog.Wired.{Wired}
 use types.Logic.{Logic}
 use contract.Lifetimes.{Lfts}
 use Rattle.std.specs.Borrow.{Bor}
@@ -42,12 +45,22 @@ use Rattle.runs.specs.Machine as machine
 use Rattle.runs.specs.Reached.{ReachedBody, Agree, In, Entries, SameAnswers}
 use Rattle.runs.specs.Overwritten.{Site, Sites, Over, SameOutside}
 
-module _ {M : Type 1} {𝓤 : Ura M} (𝓛 : Logic 𝓤) (𝓜 : Model 𝓤 𝓛.H) (κs : Lfts 1) where
+-- an environment that has the code of the six entries, with the code of all that they name: what each function's own statement asks of it
+pub record HasEntries (γ : Env) : Type 0 where
+  pub in_stream : Wired γ in-stream-symbol.code
+  pub in_sequence : Wired γ in-sequence-symbol.code
+  pub in_struct : Wired γ in-struct-symbol.code
+  pub annotation : Wired γ annotation-symbol.code
+  pub entering : Wired γ entering-symbol.code
+  pub reading : Wired γ reading-symbol.code
+
+-- γ says what each call means: the six entries are called in it by their names
+module _ {M : Type 1} {𝓤 : Ura M} (𝓛 : Logic 𝓤) (𝓜 : Model 𝓤 𝓛.H) (γ : Env) (κs : Lfts 1) where
   -- the machine, called for the program's step of these rules with the cursor c on the slice s, in some memory in which they are passed, returned x
   abbrev pub Returned : ℕ → Rules → Bor (List ℕ) → Cursor → Step → Type 1
-  Returned limit Stream s c x = machine.Returned 𝓛 𝓜 in-stream.signature in-stream-symbol.routine κs tt lowers (c, (s, (limit, tt))) x
-  Returned limit Sequence s c x = machine.Returned 𝓛 𝓜 in-sequence.signature in-sequence-symbol.routine κs tt lowers (c, (s, (limit, tt))) x
-  Returned limit Fields s c x = machine.Returned 𝓛 𝓜 in_struct.signature in-struct-symbol.routine κs tt lowers (c, (s, (limit, tt))) x
+  Returned limit Stream s c x = machine.Returned 𝓛 𝓜 in-stream.signature (γ in-stream-symbol.name) κs tt lowers (c, (s, (limit, tt))) x
+  Returned limit Sequence s c x = machine.Returned 𝓛 𝓜 in-sequence.signature (γ in-sequence-symbol.name) κs tt lowers (c, (s, (limit, tt))) x
+  Returned limit Fields s c x = machine.Returned 𝓛 𝓜 in_struct.signature (γ in-struct-symbol.name) κs tt lowers (c, (s, (limit, tt))) x
 
   -- r is an answer of the program
   abbrev pub Program : ℕ → Rules → Bor (List ℕ) → Cursor → Stepped → Type 1
@@ -57,21 +70,21 @@ module _ {M : Type 1} {𝓤 : Ura M} (𝓛 : Logic 𝓤) (𝓜 : Model 𝓤 𝓛
   abbrev pub Annotates : Bor (List ℕ) → ℕ → ℕ → Outcome Annotated → Type 1
   Annotates s end at o =
       (x : Annotation)
-      × machine.Returned 𝓛 𝓜 annotation.signature annotation-symbol.routine κs tt annotation-laws.lowers (s, (at, (end, tt))) x
+      × machine.Returned 𝓛 𝓜 annotation.signature (γ annotation-symbol.name) κs tt annotation-laws.lowers (s, (at, (end, tt))) x
       × (annotation_read x ≡ o)
 
   -- and to stepping in, in the part lo..hi at `at`
   abbrev pub Enters : ℕ → Bor (List ℕ) → ℕ → ℕ → ℕ → Outcome Opened → Type 1
   Enters limit s lo hi at o =
       (x : BodyEnum)
-      × machine.Returned 𝓛 𝓜 entering.signature entering-symbol.routine κs tt body-laws.lowers (s, (lo, (hi, (at, (limit, tt))))) x
+      × machine.Returned 𝓛 𝓜 entering.signature (γ entering-symbol.name) κs tt body-laws.lowers (s, (lo, (hi, (at, (limit, tt))))) x
       × (body_read x ≡ o)
 
   -- and to the scalar reading
   abbrev pub Reads : ℕ → Bor (List ℕ) → ℕ → ℕ → ℕ → Outcome Scalar → Type 1
   Reads limit s lo hi at o =
       (x : ScalarEnum)
-      × machine.Returned 𝓛 𝓜 reading.signature reading-symbol.routine κs tt scalar-laws.lowers (s, (lo, (hi, (at, (limit, tt))))) x
+      × machine.Returned 𝓛 𝓜 reading.signature (γ reading-symbol.name) κs tt scalar-laws.lowers (s, (lo, (hi, (at, (limit, tt))))) x
       × (scalar_read x ≡ o)
 
   -- the bytes of the map at the span that the machine's scalar reading returned
@@ -117,24 +130,24 @@ module _ {M : Type 1} {𝓤 : Ura M} (𝓛 : Logic 𝓤) (𝓜 : Model 𝓤 𝓛
   -- rules define.
   abbrev pub StepEnds : ℕ → Rules → Bor (List ℕ) → Cursor → Type 1
   StepEnds limit Stream s c =
-      machine.Ends 𝓛 𝓜 in-stream.signature in-stream-symbol.routine κs tt lowers (c, (s, (limit, tt)))
+      machine.Ends 𝓛 𝓜 in-stream.signature (γ in-stream-symbol.name) κs tt lowers (c, (s, (limit, tt)))
       (λ x. step_read x ≡ step_of limit Stream s.now c)
   StepEnds limit Sequence s c =
-      machine.Ends 𝓛 𝓜 in-sequence.signature in-sequence-symbol.routine κs tt lowers (c, (s, (limit, tt)))
+      machine.Ends 𝓛 𝓜 in-sequence.signature (γ in-sequence-symbol.name) κs tt lowers (c, (s, (limit, tt)))
       (λ x. step_read x ≡ step_of limit Sequence s.now c)
   StepEnds limit Fields s c =
-      machine.Ends 𝓛 𝓜 in_struct.signature in-struct-symbol.routine κs tt lowers (c, (s, (limit, tt)))
+      machine.Ends 𝓛 𝓜 in_struct.signature (γ in-struct-symbol.name) κs tt lowers (c, (s, (limit, tt)))
       (λ x. step_read x ≡ step_of limit Fields s.now c)
 
   -- So do those of the annotation step, stepping in and the scalar reading, at any positions.
   pub record ProgramEnds : Type 1 where
     pub steps : (limit : ℕ) (rules : Rules) (s : Bor (List ℕ)) (c : Cursor) → StepEnds limit rules s c
     pub annotation : (s : Bor (List ℕ)) (at end : ℕ)
-        → machine.Ends 𝓛 𝓜 annotation.signature annotation-symbol.routine κs tt annotation-laws.lowers (s, (at, (end, tt)))
+        → machine.Ends 𝓛 𝓜 annotation.signature (γ annotation-symbol.name) κs tt annotation-laws.lowers (s, (at, (end, tt)))
         (λ x. annotation_read x ≡ read_annotation s.now at end)
     pub entering : (limit : ℕ) (s : Bor (List ℕ)) (lo hi at : ℕ)
-        → machine.Ends 𝓛 𝓜 entering.signature entering-symbol.routine κs tt body-laws.lowers (s, (lo, (hi, (at, (limit, tt)))))
+        → machine.Ends 𝓛 𝓜 entering.signature (γ entering-symbol.name) κs tt body-laws.lowers (s, (lo, (hi, (at, (limit, tt)))))
         (λ x. body_read x ≡ step_in limit s.now lo hi at)
     pub reading : (limit : ℕ) (s : Bor (List ℕ)) (lo hi at : ℕ)
-        → machine.Ends 𝓛 𝓜 reading.signature reading-symbol.routine κs tt scalar-laws.lowers (s, (lo, (hi, (at, (limit, tt)))))
+        → machine.Ends 𝓛 𝓜 reading.signature (γ reading-symbol.name) κs tt scalar-laws.lowers (s, (lo, (hi, (at, (limit, tt)))))
         (λ x. scalar_read x ≡ read_scalar limit s.now lo hi at)
