@@ -10,7 +10,7 @@ use prog.Model.{Model}
 use types.Logic.{Logic}
 use contract.Monad.{fact}
 use contract.Lifetimes.{Lfts}
-use contract.Running.{real}
+use contract.Running.{Running, strict}
 use denote.Ref.{Bor}
 use Rattle.numbers.specs.Outcome.{Outcome, gives, refuses}
 use Rattle.symbols.specs.Read.{symbols_read, text_read}
@@ -32,7 +32,7 @@ use Rattle.symbols.proofs.symbols.text_of.Met as texting-met
 use Rattle.runs.proofs.Machine as machine
 use Rattle.runs.proofs.Machine.{Answered}
 use Rattle.runs.proofs.Values.{num, field, read_refusal, choose}
-use Rattle.overwriting.specs.ProgramTexts.{Lists, Texts, ProgramTextsStay}
+use Rattle.overwriting.specs.ProgramTexts.{HasLookups, Lists, Texts, ProgramTextsStay}
 use Rattle.overwriting.proofs.TextsStay.{texts-stay}
 
 -- ---- the list
@@ -107,26 +107,26 @@ text-read (OwnText a b) = refl
 text-read (System a b) = refl
 text-read (TextRefused e) = refl
 
-module _ {M : Type 1} {𝓤 : Ura M} (𝓛 : Logic 𝓤) (𝓜 : Model 𝓤 𝓛.H) (κs : Lfts 2) where
+module _ {M : Type 1} {𝓤 : Ura M} (𝓛 : Logic 𝓤) (𝓜 : Model 𝓤 𝓛.H) (𝓡 : Running 𝓤 𝓛.H 𝓜) (has : HasLookups 𝓡.env) (κs : Lfts 2) where
   open 𝓛 use {H}
 
-  list_answers : (limit : ℕ) (s lent : Bor (List ℕ)) (lo hi place : ℕ) → Answered 𝓛 𝓜 listing.signature listing-symbol.routine κs tt list-laws.lowers (s, (lent, (lo, (hi, (place, (limit, tt)))))) (λ x. symbols_read x ≡ symbols_at limit s.now lent.now lo hi place)
+  list_answers : (limit : ℕ) (s lent : Bor (List ℕ)) (lo hi place : ℕ) → Answered 𝓛 𝓜 listing.signature (𝓡.env listing-symbol.name) κs tt list-laws.lowers (s, (lent, (lo, (hi, (place, (limit, tt)))))) (λ x. symbols_read x ≡ symbols_at limit s.now lent.now lo hi place)
   list_answers limit s lent lo hi place =
-      machine.answered 𝓛 𝓜 listing.ended listing-symbol.routine (listing.clauses 𝓛 𝓜.mem (real 𝓤 H 𝓜).run) (listing-met.met 𝓤 𝓛 𝓜 (real 𝓤 H 𝓜)) κs tt list-laws.lowers symbols_read list_of list_made list_read list_one
+      machine.answered 𝓛 𝓜 𝓡 listing.ended (𝓡.env listing-symbol.name) (listing.clauses 𝓛 𝓜.mem 𝓡.returns) (listing-met.met 𝓤 𝓛 𝓜 (strict 𝓤 H 𝓜 𝓡) has.list) κs tt list-laws.lowers symbols_read list_of list_made list_read list_one
       (s, (lent, (lo, (hi, (place, (limit, tt)))))) tt (symbols_at limit s.now lent.now lo hi place) (id⊢ 𝓤 (emp 𝓤)) (λ x ws. id⊢ 𝓤 (fact 𝓤 (symbols_read x ≡ symbols_at limit s.now lent.now lo hi place)))
 
-  text_answers : (limit : ℕ) (s lent : Bor (List ℕ)) (lo hi place id : ℕ) → Answered 𝓛 𝓜 texting.signature texting-symbol.routine κs tt text-laws.lowers (s, (lent, (lo, (hi, (place, (id, (limit, tt))))))) (λ x. text_read x ≡ text_of limit s.now lent.now lo hi place id)
+  text_answers : (limit : ℕ) (s lent : Bor (List ℕ)) (lo hi place id : ℕ) → Answered 𝓛 𝓜 texting.signature (𝓡.env texting-symbol.name) κs tt text-laws.lowers (s, (lent, (lo, (hi, (place, (id, (limit, tt))))))) (λ x. text_read x ≡ text_of limit s.now lent.now lo hi place id)
   text_answers limit s lent lo hi place id =
-      machine.answered 𝓛 𝓜 texting.ended texting-symbol.routine (texting.clauses 𝓛 𝓜.mem (real 𝓤 H 𝓜).run) (texting-met.met 𝓤 𝓛 𝓜 (real 𝓤 H 𝓜)) κs tt text-laws.lowers text_read text-of text_made text-read text_one
+      machine.answered 𝓛 𝓜 𝓡 texting.ended (𝓡.env texting-symbol.name) (texting.clauses 𝓛 𝓜.mem 𝓡.returns) (texting-met.met 𝓤 𝓛 𝓜 (strict 𝓤 H 𝓜 𝓡) has.text) κs tt text-laws.lowers text_read text-of text_made text-read text_one
       (s, (lent, (lo, (hi, (place, (id, (limit, tt))))))) tt (text_of limit s.now lent.now lo hi place id) (id⊢ 𝓤 (emp 𝓤)) (λ x ws. id⊢ 𝓤 (fact 𝓤 (text_read x ≡ text_of limit s.now lent.now lo hi place id)))
 
-  list_by : (limit : ℕ) (s lent : Bor (List ℕ)) (lo hi place : ℕ) (o : Outcome Own) → Lists 𝓛 𝓜 κs limit s lent lo hi place o → o ≡ symbols_at limit s.now lent.now lo hi place
+  list_by : (limit : ℕ) (s lent : Bor (List ℕ)) (lo hi place : ℕ) (o : Outcome Own) → Lists 𝓛 𝓜 𝓡.env κs limit s lent lo hi place o → o ≡ symbols_at limit s.now lent.now lo hi place
   list_by limit s lent lo hi place o p = sym p.2 ∙ (list_answers limit s lent lo hi place).returned p.0 p.1
 
-  text_by : (limit : ℕ) (s lent : Bor (List ℕ)) (lo hi place id : ℕ) (o : Outcome Text) → Texts 𝓛 𝓜 κs limit s lent lo hi place id o → o ≡ text_of limit s.now lent.now lo hi place id
+  text_by : (limit : ℕ) (s lent : Bor (List ℕ)) (lo hi place id : ℕ) (o : Outcome Text) → Texts 𝓛 𝓜 𝓡.env κs limit s lent lo hi place id o → o ≡ text_of limit s.now lent.now lo hi place id
   text_by limit s lent lo hi place id o p = sym p.2 ∙ (text_answers limit s lent lo hi place id).returned p.0 p.1
 
-  pub program-texts-stay : ProgramTextsStay 𝓛 𝓜 κs
+  pub program-texts-stay : ProgramTextsStay 𝓛 𝓜 𝓡.env κs
   program-texts-stay limit s s' lent lent' e lo₀ hi₀ Chosen sites agree place quiet =
       let same = texts-stay limit s.now s'.now lent.now lo₀ hi₀ Chosen sites agree place quiet in
       record {

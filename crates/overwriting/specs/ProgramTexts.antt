@@ -1,9 +1,11 @@
 -- The same of the program's own answers: what the machine returned to calls of the two lookups. The proof: `program-texts-stay` of proofs/ProgramTexts.antt. As a
--- function's statement is, it is for every model of the machine.
+-- function's statement is, it is for every model of the machine and every environment that has the functions' code.
 -- Assumes nothing.
 use Rattle.std.specs.Prelude.{ℕ, ◌≡◌, List}
 use seplogic.Ra.Ura.{Ura}
 use prog.Model.{Model}
+use prog.Routine.{Env}
+use prog.Wired.{Wired}
 use types.Logic.{Logic}
 use contract.Lifetimes.{Lfts}
 use Rattle.std.specs.Borrow.{Bor}
@@ -23,19 +25,25 @@ use Rattle.runs.specs.Reached.{Agree, ByRules}
 use Rattle.runs.specs.Overwritten.{Site, Sites, Over}
 use Rattle.overwriting.specs.TextsStay.{Quiet}
 
-module _ {M : Type 1} {𝓤 : Ura M} (𝓛 : Logic 𝓤) (𝓜 : Model 𝓤 𝓛.H) (κs : Lfts 2) where
+-- an environment that has the code of the two lookups, with the code of all that they name
+pub record HasLookups (γ : Env) : Type 0 where
+  pub list : Wired γ listing-symbol.code
+  pub text : Wired γ texting-symbol.code
+
+-- γ says what each call means: the two are called in it by their names
+module _ {M : Type 1} {𝓤 : Ura M} (𝓛 : Logic 𝓤) (𝓜 : Model 𝓤 𝓛.H) (γ : Env) (κs : Lfts 2) where
   -- o is what the machine's answer is read as: to the lookup of the list that rules at a place of the stream lo..hi of the map s, with the system's texts lent
   abbrev pub Lists : ℕ → Bor (List ℕ) → Bor (List ℕ) → ℕ → ℕ → ℕ → Outcome Own → Type 1
   Lists limit s lent lo hi place o =
       (x : Symbols)
-      × machine.Returned 𝓛 𝓜 listing.signature listing-symbol.routine κs tt list-laws.lowers (s, (lent, (lo, (hi, (place, (limit, tt)))))) x
+      × machine.Returned 𝓛 𝓜 listing.signature (γ listing-symbol.name) κs tt list-laws.lowers (s, (lent, (lo, (hi, (place, (limit, tt)))))) x
       × (symbols_read x ≡ o)
 
   -- and to that of an ID's text there
   abbrev pub Texts : ℕ → Bor (List ℕ) → Bor (List ℕ) → ℕ → ℕ → ℕ → ℕ → Outcome Text → Type 1
   Texts limit s lent lo hi place id o =
       (x : SymbolText)
-      × machine.Returned 𝓛 𝓜 texting.signature texting-symbol.routine κs tt text-laws.lowers (s, (lent, (lo, (hi, (place, (id, (limit, tt))))))) x
+      × machine.Returned 𝓛 𝓜 texting.signature (γ texting-symbol.name) κs tt text-laws.lowers (s, (lent, (lo, (hi, (place, (id, (limit, tt))))))) x
       × (text_read x ≡ o)
 
   -- The answers on the one map are those on the other, where the same system's texts are lent.
