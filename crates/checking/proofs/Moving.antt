@@ -200,4 +200,6 @@ items_alike s t v w e ids body = go (read_ids s v.annotations v.descriptor) (rea
   where
     go : (o o' : Outcome Done) → Alike o o' → Alike (and_then o (content_next s v)) (and_then o' (content_next t w))
     go (gives done) (gives done) both_give = contents_alike s t v w e body
+    go (gives done) (refuses m' q) x = elim x [ ]
+    go (refuses m p) (gives _) x = elim x [ ]
     go (refuses m p) (refuses m' q) both_refuse = both_refuse

@@ -17,6 +17,7 @@ use Rattle.framing.specs.Spans.{Spans}
 use Rattle.stepping.specs.declared.cursor.Rules.{Rules}
 use Rattle.values.specs.Read.{scalar_read}
 use Rattle.values.specs.Scalars.{is_container, body_rules, Opened, opened, Scalar, scalar_of, scalar_in}
+use Rattle.numbers.specs.declared.refusal.Refusal.{Refusal}
 use Rattle.values.specs.declared.value.Scalar.{Scalar as ScalarEnum}
 use Rattle.values.specs.declared.value.Scalar.TheVariants.{Null, Bool, Int, Float, Decimal, Timestamp, Symbol}
 use Rattle.values.specs.declared.value.Scalar.TheVariants.{Text, Clob, Blob, Container, Refused}
@@ -25,39 +26,20 @@ use Rattle.checking.specs.Counts.{place_of, counting}
 use Rattle.checking.specs.Reading.{Done, done, read_body, read_ids, content_next, read_content, read_item}
 use Rattle.checking.specs.Check.{Parts, least_room, inside_of, value_check}
 
--- neither a decimal nor a timestamp nor a refusal, by the number of its variant
-pub record Plain (x : ℕ) : Type 0 where
-  pub decimal : x ≡ 4 → ⊥
-  pub timestamp : x ≡ 5 → ⊥
-  pub refused : x ≡ 11 → ⊥
-
-plain_by : (x n : ℕ) → x ≡ n → (n ≡ 4 → ⊥) → (n ≡ 5 → ⊥) → (n ≡ 11 → ⊥) → Plain x
-plain_by x n e a b c = record { decimal = λ q. a (sym e ∙ q); timestamp = λ q. b (sym e ∙ q); refused = λ q. c (sym e ∙ q) }
-
-pub plain : (x : ℕ) → OneOf (0 ∷ 1 ∷ 2 ∷ 3 ∷ 6 ∷ 7 ∷ 8 ∷ 9 ∷ 10 ∷ []) x → Plain x
-plain x (inl e) = plain_by x 0 e (λ q. omega arith) (λ q. omega arith) (λ q. omega arith)
-plain x (inr (inl e)) = plain_by x 1 e (λ q. omega arith) (λ q. omega arith) (λ q. omega arith)
-plain x (inr (inr (inl e))) = plain_by x 2 e (λ q. omega arith) (λ q. omega arith) (λ q. omega arith)
-plain x (inr (inr (inr (inl e)))) = plain_by x 3 e (λ q. omega arith) (λ q. omega arith) (λ q. omega arith)
-plain x (inr (inr (inr (inr (inl e))))) = plain_by x 6 e (λ q. omega arith) (λ q. omega arith) (λ q. omega arith)
-plain x (inr (inr (inr (inr (inr (inl e)))))) = plain_by x 7 e (λ q. omega arith) (λ q. omega arith) (λ q. omega arith)
-plain x (inr (inr (inr (inr (inr (inr (inl e))))))) = plain_by x 8 e (λ q. omega arith) (λ q. omega arith) (λ q. omega arith)
-plain x (inr (inr (inr (inr (inr (inr (inr (inl e)))))))) = plain_by x 9 e (λ q. omega arith) (λ q. omega arith) (λ q. omega arith)
-plain x (inr (inr (inr (inr (inr (inr (inr (inr e)))))))) = plain_by x 10 e (λ q. omega arith) (λ q. omega arith) (λ q. omega arith)
-
-pub plain_read : (s : List ℕ) (descriptor : ℕ) (x : ScalarEnum) → Plain (tag_of the_type x) → gives done ≡ and_then (scalar_read x) (read_body s descriptor)
-plain_read s d (Null t) p = refl
-plain_read s d (Bool b) p = refl
-plain_read s d (Int n a b) p = refl
-plain_read s d (Float w) p = refl
-plain_read s d (Decimal a b) p = absurd (p.decimal refl)
-plain_read s d (Timestamp a b) p = absurd (p.timestamp refl)
-plain_read s d (Symbol i) p = refl
-plain_read s d (Text a b) p = refl
-plain_read s d (Clob a b) p = refl
-plain_read s d (Blob a b) p = refl
-plain_read s d Container p = refl
-plain_read s d (Refused e) p = absurd (p.refused refl)
+-- a scalar that is neither a decimal nor a timestamp nor a refusal: nothing is left to be read
+pub plain_read : (s : List ℕ) (descriptor : ℕ) (x : ScalarEnum) → ((a b : ℕ) → x ≡ Decimal a b → ⊥) → ((a b : ℕ) → x ≡ Timestamp a b → ⊥) → ((e : Refusal) → x ≡ Refused e → ⊥) → gives done ≡ and_then (scalar_read x) (read_body s descriptor)
+plain_read s d (Null t) p q r = refl
+plain_read s d (Bool b) p q r = refl
+plain_read s d (Int n a b) p q r = refl
+plain_read s d (Float w) p q r = refl
+plain_read s d (Decimal a b) p q r = absurd (p a b refl)
+plain_read s d (Timestamp a b) p q r = absurd (q a b refl)
+plain_read s d (Symbol i) p q r = refl
+plain_read s d (Text a b) p q r = refl
+plain_read s d (Clob a b) p q r = refl
+plain_read s d (Blob a b) p q r = refl
+plain_read s d Container p q r = refl
+plain_read s d (Refused e) p q r = absurd (r e refl)
 
 module _ (s : List ℕ) (v : Spans) where
   -- behind its IDs its scalar is read

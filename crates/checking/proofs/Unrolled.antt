@@ -73,8 +73,8 @@ module _ (limit : ℕ) (s : List ℕ) (ranged : out_of_range limit ≡ false) wh
   fuel : (k k' : ℕ) (rules : Rules) (room hi at : ℕ) (c : List ℕ) → at ≤ hi → hi ≤ length s → hi - at ≤ k → hi - at ≤ k' → part_check limit k s rules room hi at c ≡ part_check limit k' s rules room hi at c
   unfolding part_check
   fuel zero zero rules room hi at c l m f g = refl
-  fuel zero (suc k') rules room hi at c l m f g = ended rules room at hi c _ _ (omega arith) m
-  fuel (suc k) zero rules room hi at c l m f g = sym (ended rules room at hi c _ _ (omega arith) m)
+  fuel zero (suc k') rules room hi at c l m f g = ended rules room at hi c (part_check limit k' s) (part_check limit k' s rules room hi) (omega arith) m
+  fuel (suc k) zero rules room hi at c l m f g = sym (ended rules room at hi c (part_check limit k s) (part_check limit k s rules room hi) (omega arith) m)
   fuel (suc k) (suc k') rules room hi at c l m f g =
       found_same s room at hi (part_check limit k s) (part_check limit k' s) (part_check limit k s rules room hi) (part_check limit k' s rules room hi)
       (λ r n e b d p q t. fuel k k' r n e b d q (omega arith) (omega arith) (omega arith))

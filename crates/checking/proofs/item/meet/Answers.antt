@@ -104,7 +104,7 @@ returns-in-Field c =
     let p = c.requires in
     let n = length (found a.limit a.rules a.s.now (cursor a.at a.end)).pads in
     let v = spans_of c.in-Field.value in
-    let x = field c.in-Field._ c.in-Field._ v in
+    let x = field c.in-Field.id c.in-Field.start v in
     let e = sym (answers (goal.at.returns-in-Field c).After-count_at-step) ∙ ap item_read c.in-Field.is in
     record {
       meets = checks (goal.at.returns-in-Field c).After-tally c.in-Field.is;

@@ -5,7 +5,7 @@ use Rattle.numbers.specs.Outcome.{and_then}
 use Rattle.values.specs.Read.{scalar_read}
 use Rattle.values.specs.declared.value.Scalar.{Scalar}
 use Rattle.checking.specs.Reading.{read_body}
-use Rattle.checking.proofs.Scalars.{plain, plain_read}
+use Rattle.checking.proofs.Scalars.{plain_read}
 use Rattle.checking.proofs.item.read_body.Goals as goal
 
 pub returns-in-Decimal : goal.returns-in-Decimal
@@ -26,4 +26,4 @@ returns-in-Refused c =
 pub returns-in_default : goal.returns-in_default
 returns-in_default c =
     let a = c.args in
-    plain_read a.s.now a.descriptor a.scalar (plain _ c.in_default.is)
+    plain_read a.s.now a.descriptor a.scalar c.in_default.not-Decimal c.in_default.not-Timestamp c.in_default.not-Refused
