@@ -51,8 +51,8 @@ module _ (limit : ℕ) (s : List ℕ) where
   fuel : (k k' : ℕ) (rules : Rules) (hi at : ℕ) → at ≤ hi → hi ≤ length s → hi - at ≤ k → hi - at ≤ k' → tree_in limit k s rules hi at ≡ tree_in limit k' s rules hi at
   unfolding tree_in
   fuel zero zero rules hi at l m f g = refl
-  fuel zero (suc k') rules hi at l m f g = ended rules at hi _ _ (omega arith) m
-  fuel (suc k) zero rules hi at l m f g = sym (ended rules at hi _ _ (omega arith) m)
+  fuel zero (suc k') rules hi at l m f g = ended rules at hi (tree_in limit k' s) (tree_in limit k' s rules hi) (omega arith) m
+  fuel (suc k) zero rules hi at l m f g = sym (ended rules at hi (tree_in limit k s) (tree_in limit k s rules hi) (omega arith) m)
   fuel (suc k) (suc k') rules hi at l m f g =
       on_same limit s at hi (tree_in limit k s) (tree_in limit k' s) (tree_in limit k s rules hi) (tree_in limit k' s rules hi)
       (λ r e b p q t. fuel k k' r e b q (omega arith) (omega arith) (omega arith))
