@@ -1,24 +1,23 @@
-use Rattle.std.proofs.Common.{◌≡◌, [], ◌∷◌, ◌+◌, ◌-◌, ◌≤◌, length, ℕ, ◌*◌, ◌<◌}
+-- The cycle of calls {pack_part, pack_value}: what is left of a part is stored behind what is packed. A value's body is smaller than the value, so the measures
+-- are twice the bytes for a value and one more for a part.
+use Rattle.std.proofs.Common.{◌≡◌, ◌≤◌, ◌+◌, ◌-◌, length}
 use Rattle.std.proofs.lemmas.List.Edits.{sets}
-use Rattle.numbers.specs.Bytes.{part}
-use Rattle.framing.specs.Read.{spans_of}
-use Rattle.packing.specs.Tree.{header_of, kept_byte, written}
-use Rattle.packing.specs.Packed.{head_of}
-use Rattle.packing.specs.Answers.{pack_of, buffer_of}
-use Rattle.packing.specs.Read.{size_read}
-use Rattle.packing.specs.Private.Sizes.{wrap_size, value_size}
-use Rattle.packing.specs.Private.Items.{bytes_at, value_bytes, PlacedAt, HandedOut}
-use Rattle.packing.specs.Private.Fronts.{wrap_front, front_of}
+use Rattle.packing.specs.Private.Items.{bytes_at}
 use Rattle.packing.proofs.pack.+pack_part_pack_value.Given as goal
 
 abbrev pub decreases-pack_part : goal.decreases-pack_part
-decreases-pack_part l = ?
+decreases-pack_part l = (l.end - l.at) + (l.end - l.at) + 1
 
 abbrev pub decreases-pack_value : goal.decreases-pack_value
-decreases-pack_value l = ?
+decreases-pack_value l = (l.value.end - l.from) + (l.value.end - l.from)
 
 abbrev pub invariant-pack_part-loop-major : goal.invariant-pack_part-loop-major
-invariant-pack_part-loop-major l = ?
+invariant-pack_part-loop-major l =
+    (l.at ≤ l.from)
+    × (l.from ≤ l.end)
+    × (length l.out ≡ length l.initial.out)
+    × (l.next + length (bytes_at l.limit l.s l.rules l.end l.from) ≡ l.to + length (bytes_at l.limit l.s l.rules l.end l.at))
+    × (sets l.out l.next (bytes_at l.limit l.s l.rules l.end l.from) ≡ sets l.initial.out l.to (bytes_at l.limit l.s l.rules l.end l.at))
 
 abbrev pub decreases-pack_part-loop-major : goal.decreases-pack_part-loop-major
-decreases-pack_part-loop-major l = ?
+decreases-pack_part-loop-major l = l.end - l.from
