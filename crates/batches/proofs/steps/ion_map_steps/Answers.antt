@@ -74,7 +74,10 @@ part c =
     inside a.map.now a.start a.end a.position a.kind (sym c.inside.ensures ∙ c.if-not-inside.false)
 
 pub put_steps-steps-requires : goal.put_steps-steps-requires
-put_steps-steps-requires c = let i = part (goal.at.put_steps-steps-requires c).Else-not-inside in (ranged (goal.at.put_steps-steps-requires c).Else-out_of_range, i.order, i.high)
+put_steps-steps-requires c =
+    let here = goal.at.put_steps-steps-requires c in
+    let i = part here.Else-not-inside in
+    (ranged here.Else-out_of_range, i.order, i.high)
 
 pub returns : goal.returns
 unfolding returned_last count_in

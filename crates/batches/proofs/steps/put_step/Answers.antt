@@ -1,6 +1,6 @@
 -- `put_step` meets its contract: the end, a short value behind its name, or what else stands there, is what the step answers, and its words are put.
 use native.Mathlib.Omega.{arith}
-use Prim.Native.Nat.{ℕ, ◌+◌, ◌<◌}
+use Prim.Native.Nat.{ℕ, ◌+◌}
 use mathlib.Core.Path.{◌≡◌, refl, ◌∙◌, sym, ap}
 use lib.ListN.{get_or}
 use Rattle.numbers.specs.Outcome.{gives}
@@ -22,23 +22,11 @@ use Rattle.records.proofs.BareWords.{bare-words}
 use Rattle.batches.specs.Private.Run.{put_by}
 use Rattle.batches.proofs.Putting.{value_leaves, put_at, put_over, same_place}
 use Rattle.batches.proofs.steps.put_step.Goals as goal
-use Rattle.batches.proofs.steps.put_step.Goals.{Else-end-at, In-At, In-Value}
-
--- past the first test something is left
-before : (c : Else-end-at) → let a = c.args in a.at < a.end
-before c = omega (arith, c.if-end-at.false)
-
--- past the first test something is left
-before-In-At : (c : In-At) → let a = c.args in a.at < a.end
-before-In-At c = omega (arith, c.if-end-at.false)
+use Rattle.batches.proofs.steps.put_step.Goals.{In-At, In-Value}
 
 -- the name that was read, and where it ends
 abbrev name : In-At → Unsigned
 name c = record { value = c.in-At.id; next = c.in-At.next }
-
--- the name that was read, and where it ends
-abbrev name-In-Value : In-Value → Unsigned
-name-In-Value c = record { value = c.in-At.id; next = c.in-At.next }
 
 named : (c : In-At) → let a = c.args in name_at a.rules a.map.now a.at a.end ≡ gives (name c)
 named c = sym c.read_name.ensures ∙ ap named_read c.in-At.is
@@ -46,18 +34,18 @@ named c = sym c.read_name.ensures ∙ ap named_read c.in-At.is
 ended : (c : In-At) → let a = c.args in NameIn a.at a.end (name c)
 ended c =
     let a = c.args in
-    name_in a.rules a.map.now a.at a.end (before-In-At c) (name c) (named c)
+    name_in a.rules a.map.now a.at a.end (omega (arith, c.if-end-at.false)) (name c) (named c)
 
 -- the short value that was read behind it
 abbrev value : In-Value → Spans
 value b =
-    let n = (name-In-Value b).next in
+    let n = b.in-At.next in
     bare_spans (get_or b.args.map.now n 0) n b.in-Value.body (b.in-Value.body + b.in-Value.size)
 
-short : (b : In-Value) → let a = b.args in short_value_of (name-In-Value b).next (read_value a.limit a.map.now (name-In-Value b).next a.end) ≡ short_value (value b)
+short : (b : In-Value) → let a = b.args in short_value_of b.in-At.next (read_value a.limit a.map.now b.in-At.next a.end) ≡ short_value (value b)
 short b =
     let a = b.args in
-    let n = (name-In-Value b).next in
+    let n = b.in-At.next in
     sym (b.short_value.ensures a.limit) ∙ ap (short_value_read (get_or a.map.now n 0) n) b.in-Value.is
 
 pub returns-then-end-at : goal.returns-then-end-at
@@ -69,8 +57,9 @@ returns-then-end-at c =
 
 pub overflow_add-past : goal.overflow_add-past
 overflow_add-past c =
+    let here = goal.at.overflow_add-past c in
     let a = c.args in
-    omega (arith, (short_bounds a.limit a.map.now (name (goal.at.overflow_add-past c).In-At).next a.end (short (goal.at.overflow_add-past c).In-Value)).within, c.requires.2)
+    omega (arith, (short_bounds a.limit a.map.now c.in-At.next a.end (short here.In-Value)).within, c.requires.2)
 
 pub bounds-map-next : goal.bounds-map-next
 bounds-map-next c =
@@ -78,25 +67,27 @@ bounds-map-next c =
 
 pub returns-in-Value : goal.returns-in-Value
 returns-in-Value c =
+    let here = goal.at.returns-in-Value c in
     let a = c.args in
     let s = a.map.now in
-    let n = name (goal.at.returns-in-Value c).In-At in
-    let o = short_stepped a.limit a.rules s a.at a.end c.requires.0 (before (goal.at.returns-in-Value c).Else-end-at) c.requires.2 n (named (goal.at.returns-in-Value c).In-At) (value (goal.at.returns-in-Value c).In-Value) (short (goal.at.returns-in-Value c).In-Value) in
+    let n = name here.In-At in
+    let o = short_stepped a.limit a.rules s a.at a.end c.requires.0 (omega (arith, c.if-end-at.false)) c.requires.2 n (named here.In-At) (value here.In-Value) (short here.In-Value) in
     let body = c.in-Value.body in
     let size = c.in-Value.size in
     let e : c.bare_words.result ≡ bare_words a.rules a.at n.value (get_or s n.next 0) n.next body (body + size) size = c.bare_words.ensures in
-    let f = bare-words s a.at a.end (get_or s n.next 0) body size a.rules n (named (goal.at.returns-in-Value c).In-At) in
-    let r = put_at a.out.now (sym o) (e ∙ f) c.put_record.ensures (value_leaves a.rules a.at n.value (value (goal.at.returns-in-Value c).In-Value)) in
+    let f = bare-words s a.at a.end (get_or s n.next 0) body size a.rules n (named here.In-At) in
+    let r = put_at a.out.now (sym o) (e ∙ f) c.put_record.ensures (value_leaves a.rules a.at n.value (value here.In-Value)) in
     record { value = same_place {k = body + size} (omega arith) r.value; out_after = r.out_after }
 
 pub returns-in-Other : goal.returns-in-Other
 returns-in-Other c =
+    let here = goal.at.returns-in-Other c in
     let a = c.args in
-    let e = named_stepped a.limit a.rules a.map.now a.at a.end (name (goal.at.returns-in-Other c).In-At) (named (goal.at.returns-in-Other c).In-At) in
+    let e = named_stepped a.limit a.rules a.map.now a.at a.end (name here.In-At) (named here.In-At) in
     record { value = c.put_long.ensures.value ∙ ap (λ x. put_by x a.out.now) e; out_after = c.put_long.ensures.out_after ∙ ap (λ x. record_in (words x) a.out.now) e }
 
 pub returns-in-Refused : goal.returns-in-Refused
 returns-in-Refused c =
     let a = c.args in
-    let o = unnamed_stepped a.limit a.rules a.map.now a.at a.end c.requires.0 (before (goal.at.returns-in-Refused c).Else-end-at) c.requires.2 (sym c.read_name.ensures ∙ ap named_read c.in-Refused.is) in
+    let o = unnamed_stepped a.limit a.rules a.map.now a.at a.end c.requires.0 (omega (arith, c.if-end-at.false)) c.requires.2 (sym c.read_name.ensures ∙ ap named_read c.in-Refused.is) in
     put_over a.out.now (sym o) c.refused_words.ensures c.put_record-number-in-Refused.ensures refl

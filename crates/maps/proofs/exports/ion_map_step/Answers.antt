@@ -64,16 +64,18 @@ returns-then-not-inside c =
 
 pub returns-then-end-position : goal.returns-then-end-position
 returns-then-end-position c =
+    let here = goal.at.returns-then-end-position c in
     let a = c.args in
     let o = exported_step a.limit a.map.now a.start a.end a.position a.kind in
-    let q : a.position ≡ a.end = omega (arith, c.if-end-position.true, (part (goal.at.returns-then-end-position c).Else-not-inside).order) in
-    let e : gives (finish a.end) ≡ o = sym (stepped (goal.at.returns-then-end-position c).Else-not-inside ∙ ap (λ (k : ℕ). answer_at a.limit (rules_of a.kind) a.map.now k a.end) q ∙ moves_end a.limit (rules_of a.kind) a.map.now a.end (part (goal.at.returns-then-end-position c).Else-not-inside).high (ranged (goal.at.returns-then-end-position c).Else-out_of_range)) in
+    let q : a.position ≡ a.end = omega (arith, c.if-end-position.true, (part here.Else-not-inside).order) in
+    let e : gives (finish a.end) ≡ o = sym (stepped here.Else-not-inside ∙ ap (λ (k : ℕ). answer_at a.limit (rules_of a.kind) a.map.now k a.end) q ∙ moves_end a.limit (rules_of a.kind) a.map.now a.end (part here.Else-not-inside).high (ranged here.Else-out_of_range)) in
     put a.out.now o (c.end_words.ensures ∙ ap words e) c.put_record-then-end-position.ensures
 
 pub put_inside-requires : goal.put_inside-requires
 put_inside-requires c =
-    let p = part (goal.at.put_inside-requires c).Else-not-inside in
-    (ranged (goal.at.put_inside-requires c).Else-out_of_range, omega (arith, c.if-end-position.false), p.high)
+    let here = goal.at.put_inside-requires c in
+    let p = part here.Else-not-inside in
+    (ranged here.Else-out_of_range, omega (arith, c.if-end-position.false), p.high)
 
 pub returns : goal.returns
 returns c =

@@ -31,10 +31,6 @@ put old e h = record {
 abbrev name : In-At → Unsigned
 name c = record { value = c.in-At.id; next = c.in-At.next }
 
--- the name that was read, and where it ends
-abbrev name-In-Value : In-Value → Unsigned
-name-In-Value c = record { value = c.in-At.id; next = c.in-At.next }
-
 named : (c : In-At) → let a = c.args in name_at a.rules a.map.now a.at a.end ≡ gives (name c)
 named c = sym c.read_name.ensures ∙ ap named_read c.in-At.is
 
@@ -46,19 +42,20 @@ ended c =
 -- the short value that was read behind it
 abbrev value : In-Value → Spans
 value b =
-    let n = (name-In-Value b).next in
+    let n = b.in-At.next in
     bare_spans (get_or b.args.map.now n 0) n b.in-Value.body (b.in-Value.body + b.in-Value.size)
 
-short : (b : In-Value) → let a = b.args in short_value_of (name-In-Value b).next (read_value a.limit a.map.now (name-In-Value b).next a.end) ≡ short_value (value b)
+short : (b : In-Value) → let a = b.args in short_value_of b.in-At.next (read_value a.limit a.map.now b.in-At.next a.end) ≡ short_value (value b)
 short b =
     let a = b.args in
-    let n = (name-In-Value b).next in
+    let n = b.in-At.next in
     sym (b.short_value.ensures a.limit) ∙ ap (short_value_read (get_or a.map.now n 0) n) b.in-Value.is
 
 pub overflow_add-past : goal.overflow_add-past
 overflow_add-past c =
+    let here = goal.at.overflow_add-past c in
     let a = c.args in
-    omega (arith, (short_bounds a.limit a.map.now (name (goal.at.overflow_add-past c).In-At).next a.end (short (goal.at.overflow_add-past c).In-Value)).within, c.requires.2)
+    omega (arith, (short_bounds a.limit a.map.now c.in-At.next a.end (short here.In-Value)).within, c.requires.2)
 
 pub bounds-map-next : goal.bounds-map-next
 bounds-map-next c =
@@ -66,20 +63,22 @@ bounds-map-next c =
 
 pub returns-in-Value : goal.returns-in-Value
 returns-in-Value c =
+    let here = goal.at.returns-in-Value c in
     let a = c.args in
     let s = a.map.now in
-    let n = (name (goal.at.returns-in-Value c).In-At).next in
-    let o = short_stepped a.limit a.rules s a.at a.end c.requires.0 c.requires.1 c.requires.2 (name (goal.at.returns-in-Value c).In-At) (named (goal.at.returns-in-Value c).In-At) (value (goal.at.returns-in-Value c).In-Value) (short (goal.at.returns-in-Value c).In-Value) in
+    let n = c.in-At.next in
+    let o = short_stepped a.limit a.rules s a.at a.end c.requires.0 c.requires.1 c.requires.2 (name here.In-At) (named here.In-At) (value here.In-Value) (short here.In-Value) in
     let body = c.in-Value.body in
     let size = c.in-Value.size in
-    let e : c.bare_words.result ≡ bare_words a.rules a.at (name (goal.at.returns-in-Value c).In-At).value (get_or s n 0) n body (body + size) size = c.bare_words.ensures in
-    let f = bare-words s a.at a.end (get_or s n 0) body size a.rules (name (goal.at.returns-in-Value c).In-At) (named (goal.at.returns-in-Value c).In-At) in
+    let e : c.bare_words.result ≡ bare_words a.rules a.at c.in-At.id (get_or s n 0) n body (body + size) size = c.bare_words.ensures in
+    let f = bare-words s a.at a.end (get_or s n 0) body size a.rules (name here.In-At) (named here.In-At) in
     put a.out.now (e ∙ f ∙ ap words (sym o)) c.put_record.ensures
 
 pub returns-in-Other : goal.returns-in-Other
 returns-in-Other c =
+    let here = goal.at.returns-in-Other c in
     let a = c.args in
-    let o = c.item_from.ensures ∙ named_stepped a.limit a.rules a.map.now a.at a.end (name (goal.at.returns-in-Other c).In-At) (named (goal.at.returns-in-Other c).In-At) in
+    let o = c.item_from.ensures ∙ named_stepped a.limit a.rules a.map.now a.at a.end (name here.In-At) (named here.In-At) in
     put a.out.now (c.item_words.ensures ∙ ap words o) c.put_record-in-Other.ensures
 
 pub returns-in-Refused : goal.returns-in-Refused
