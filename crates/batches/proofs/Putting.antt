@@ -27,17 +27,24 @@ value_leaves Fields at id v = refl
 
 -- ---- words that are put are an answer's
 
-module _ (old : List ℕ) {o p : Outcome Item} {new ws : List ℕ} (q : p ≡ o) (e : ws ≡ words p) (g : new ≡ record_in ws old) where
+module _ (old : List ℕ) {o p : Outcome Item} {n : ℕ} {new ws : List ℕ} (q : p ≡ o) (e : ws ≡ words p) (h : record { value : n ≡ returned_by ws old; out_after : new ≡ record_in ws old }) where
   record_put : new ≡ record_in (words o) old
-  record_put = g ∙ ap (λ (w : List ℕ). record_in w old) (e ∙ ap words q)
+  record_put = h.out_after ∙ ap (λ (w : List ℕ). record_in w old) (e ∙ ap words q)
 
-  pub put_at : {k : ℕ} → left_of p ≡ LeftAt k → (At k ≡ put_by o old) × (new ≡ record_in (words o) old)
-  put_at h =
-      (sym (ap (λ (l : Left). on_left l (Over (returned_by (words p) old)) (λ k. At k)) h) ∙ ap (λ (x : Outcome Item). put_by x old) q, record_put)
+  pub put_at : {k : ℕ} → left_of p ≡ LeftAt k → record { value : At k ≡ put_by o old; out_after : new ≡ record_in (words o) old }
+  put_at f = record {
+    value = sym (ap (λ (l : Left). on_left l (Over (returned_by (words p) old)) (λ k. At k)) f) ∙ ap (λ (x : Outcome Item). put_by x old) q;
+    out_after = record_put;
+  }
 
-  pub put_over : {n : ℕ} → left_of p ≡ LeftOver → n ≡ returned_by ws old → (Over n ≡ put_by o old) × (new ≡ record_in (words o) old)
-  put_over h f =
-      (ap (λ (m : ℕ). Over m) (f ∙ ap (λ (w : List ℕ). returned_by w old) e) ∙ sym (ap (λ (l : Left). on_left l (Over (returned_by (words p) old)) (λ k. At k)) h) ∙ ap (λ (x : Outcome Item). put_by x old) q, record_put)
+  pub put_over : left_of p ≡ LeftOver → record { value : Over n ≡ put_by o old; out_after : new ≡ record_in (words o) old }
+  put_over f = record {
+    value =
+        ap (λ (m : ℕ). Over m) (h.value ∙ ap (λ (w : List ℕ). returned_by w old) e)
+        ∙ sym (ap (λ (l : Left). on_left l (Over (returned_by (words p) old)) (λ k. At k)) f)
+        ∙ ap (λ (x : Outcome Item). put_by x old) q;
+    out_after = record_put;
+  }
 
 -- the place that is said is the one that an answer leaves
 pub same_place : {j k : ℕ} {x : Put} → j ≡ k → At k ≡ x → At j ≡ x

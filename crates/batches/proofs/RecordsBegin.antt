@@ -1,6 +1,6 @@
 -- `records-begin`: the records before it have a record's size each, so that it begins behind them.
 -- Assumes nothing.
-use Prim.Native.Nat.{ℕ, ◌*◌, ◌≤◌}
+use Prim.Native.Nat.{ℕ, ◌*◌}
 use native.Mathlib.Omega.{arith}
 use borrow.Author.Tests.{le-ltb}
 use mathlib.Core.Path.{◌≡◌, refl, ◌∙◌, sym, ap}
@@ -10,7 +10,6 @@ use lib.Seq.{drop-append_seam}
 use Rattle.numbers.specs.Outcome.{Outcome}
 use Rattle.stepping.specs.Items.{Item}
 use Rattle.records.specs.Buffer.{bytes_of, record_size}
-use Rattle.records.specs.FirstWords as first
 use Rattle.records.specs.Theorems.{first_size}
 use Rattle.records.specs.Words.{words}
 use Rattle.records.proofs.Storing.{length_bytes, bytes_append}

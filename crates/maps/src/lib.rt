@@ -1,4 +1,6 @@
 // The exported step, which other languages call, and the walk of whole maps.
+#![tactic(auto)]
+
 ghost use Rattle.std.specs.Prelude.{◌≡◌};
 ghost use Rattle.maps.specs.Inside.{inside_of};
 

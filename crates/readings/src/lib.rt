@@ -1,2 +1,4 @@
 // The functions that other languages call to read what a step hands out.
+#![tactic(auto)]
+
 pub mod exports;

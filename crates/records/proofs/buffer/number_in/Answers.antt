@@ -1,6 +1,5 @@
 -- `number_in` meets its contract: a refusal's kind is its first word, and its number the second.
 use borrow.Author.Tests.{eq-eqb, ne_eqb}
-use borrow.Author.Rules.{rules}
 use Rattle.records.specs.Buffer.{number_in}
 use Rattle.records.proofs.buffer.number_in.Goals as goal
 

@@ -14,12 +14,12 @@ unfolding record_in returned_by
 returns-then-out-lt-RECORD_SIZE c =
     let m : length c.args.out.now < record_size = omega (arith, c.if-out-lt-RECORD_SIZE.true) in
     let t = lt-ltb (length c.args.out.now) record_size m in
-    (rw t, (rw t))
+    record { value = rw t; out_after = rw t }
 
 pub returns : goal.returns
 unfolding returned_by
 returns c =
     let a = c.args in
-    let n : length a.t2 ≡ record_words = search rules in
+    let n : length a.words ≡ record_words = search rules in
     let m : record_size ≤ length a.out.now = omega (arith, c.if-out-lt-RECORD_SIZE.false) in
-    (rw (le-ltb (length a.out.now) record_size m) c.number_in.ensures, c.put_words.ensures ∙ record_is a.t2 a.out.now n m)
+    record { value = rw (le-ltb (length a.out.now) record_size m) c.number_in.ensures; out_after = c.put_words.ensures ∙ record_is a.words a.out.now n m }

@@ -1,11 +1,10 @@
 -- `put_word` meets its contract: with the bytes that are left stored from here on, the buffer is what it is to be.
-use borrow.Author.Rules.{rules}
-use Prim.Native.Nat.{ℕ, suc, ◌+◌, ◌-◌, ◌≤◌, ◌/◌, ◌%◌}
+use Prim.Native.Nat.{ℕ, suc, ◌+◌, ◌-◌, ◌/◌, ◌%◌}
 use native.Mathlib.Omega.{arith}
 use native.Mathlib.Numerals.{add-one}
 use mathlib.Core.Path.{◌≡◌, refl, ◌∙◌, ap}
 use mathlib.Core.List.{List}
-use lib.ListN.{length, set, length-set}
+use lib.ListN.{set, length-set}
 use lib.Seq.{sets}
 use Rattle.records.specs.Buffer.{little_endian, word_size}
 use Rattle.records.proofs.buffer.put_word.Goals as goal

@@ -1,12 +1,9 @@
 -- `put_words` meets its contract: with the words that are left stored from here on, the buffer is what it is to be.
-use Prim.Native.Nat.{ℕ, ◌+◌, ◌-◌, ◌*◌, ◌≤◌, ◌<◌}
-use native.Mathlib.Omega.{arith}
-use mathlib.Core.Path.{◌≡◌, refl, ◌∙◌, sym, ap}
-use mathlib.Core.List.{List}
-use lib.ListN.{length, get_or, drop, drop_of_length-le}
-use lib.Seq.{sets, length-sets}
-use Rattle.records.specs.Buffer.{little_endian, word_size, bytes_of}
-use Rattle.records.proofs.Storing.{next_word}
+use Prim.Native.Nat.{◌+◌, ◌-◌, ◌*◌, ◌≤◌}
+use mathlib.Core.Path.{◌≡◌}
+use lib.ListN.{length, drop}
+use lib.Seq.{sets}
+use Rattle.records.specs.Buffer.{word_size, bytes_of}
 use Rattle.records.proofs.buffer.put_words.Given as goal
 
 abbrev pub invariant-loop-i : goal.invariant-loop-i

@@ -8,4 +8,4 @@ use Rattle.records.proofs.Storing.{all_elements}
 use Rattle.records.proofs.check_record.counts_words.Goals as goal
 
 pub returns : goal.returns
-returns c = let n : 0 + 15 ≡ length c.args.t1 = search rules in ap (λ (l : List ℕ). 12 ∷ l) (all_elements 15 0 c.args.t1 n)
+returns c = let n : 0 + 15 ≡ length c.args.counts = search rules in ap (λ (l : List ℕ). 12 ∷ l) (all_elements 15 0 c.args.counts n)

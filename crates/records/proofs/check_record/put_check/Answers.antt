@@ -14,12 +14,12 @@ unfolding check_in check_returned_by
 returns-then-out-lt-CHECK_SIZE c =
     let m : length c.args.out.now < check_size = omega (arith, c.if-out-lt-CHECK_SIZE.true) in
     let t = lt-ltb (length c.args.out.now) check_size m in
-    (rw t, (rw t))
+    record { value = rw t; out_after = rw t }
 
 pub returns : goal.returns
 unfolding check_returned_by
 returns c =
     let a = c.args in
-    let n : length a.t2 ≡ 16 = search rules in
+    let n : length a.words ≡ 16 = search rules in
     let m : check_size ≤ length a.out.now = omega (arith, c.if-out-lt-CHECK_SIZE.false) in
-    (rw (le-ltb (length a.out.now) check_size m) c.check_number.ensures, c.put_words.ensures ∙ check_is a.t2 a.out.now n m)
+    record { value = rw (le-ltb (length a.out.now) check_size m) c.check_number.ensures; out_after = c.put_words.ensures ∙ check_is a.words a.out.now n m }

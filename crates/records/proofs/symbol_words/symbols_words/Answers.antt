@@ -1,6 +1,5 @@
 -- `symbols_words` meets its contract: each arm is a case of the words.
-use borrow.Author.Rules.{rules}
-use mathlib.Core.Path.{◌≡◌, sym, ◌∙◌, ap}
+use mathlib.Core.Path.{sym, ◌∙◌, ap}
 use Rattle.symbols.specs.Read.{symbols_read}
 use Rattle.symbols.specs.declared.symbols.Symbols.{Symbols}
 use Rattle.records.specs.SymbolWords.{symbols_words}

@@ -1,7 +1,5 @@
 -- `text_words` meets its contract: each arm is a case of the words.
-use borrow.Author.Rules.{rules}
 use mathlib.Core.Path.{◌≡◌, sym, ◌∙◌, ap}
-use mathlib.Core.List.{List}
 use Prim.Native.Nat.{ℕ}
 use Rattle.symbols.specs.Read.{text_read}
 use Rattle.symbols.specs.declared.symbols.SymbolText.{SymbolText}

@@ -3,7 +3,6 @@ use mathlib.Core.Path.{◌∙◌, sym, ap}
 use Rattle.framing.specs.Read.{annotation_read}
 use Rattle.framing.specs.declared.annotations_iterator.Annotation.{Annotation}
 use Rattle.records.specs.Words.{annotation_words}
-use borrow.Author.Rules.{rules}
 use Rattle.records.proofs.words.annotation_words.Goals as goal
 
 pub returns-in-Id : goal.returns-in-Id

@@ -1,5 +1,4 @@
 -- `decimal_words` meets its contract: each arm is a case of the words.
-use borrow.Author.Rules.{rules}
 use mathlib.Core.Path.{◌∙◌, sym, ap}
 use Rattle.bodies.specs.Decimal.{decimal_read}
 use Rattle.bodies.specs.declared.decimal.Decimal.{Decimal}

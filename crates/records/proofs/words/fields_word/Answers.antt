@@ -1,6 +1,5 @@
 -- `fields_word` meets its contract: bytes and sixteen bits, each in its own place, fit the word.
 use native.Mathlib.Omega.{arith}
-use borrow.Author.Rules.{rules}
 use Rattle.records.specs.Words.{fields_word}
 use Rattle.records.proofs.words.fields_word.Goals as goal
 

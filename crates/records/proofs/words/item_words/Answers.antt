@@ -1,5 +1,4 @@
 -- `item_words` meets its contract: each arm is a case of `words`.
-use borrow.Author.Rules.{rules}
 use mathlib.Core.Path.{◌∙◌, sym, ap}
 use Rattle.records.specs.Words.{words}
 use Rattle.stepping.specs.Read.{item_read}

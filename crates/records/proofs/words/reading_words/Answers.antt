@@ -1,6 +1,5 @@
 -- `reading_words` meets its contract: the words are written out, but for the byte's and the length, which two functions give.
-use borrow.Author.Rules.{rules}
 use Rattle.records.proofs.words.reading_words.Goals as goal
 
 pub returns : goal.returns
-returns c = rw (c.wide.ensures, c.type_size.ensures)
+returns c = rw (c.wide.ensures, c.size_of.ensures)

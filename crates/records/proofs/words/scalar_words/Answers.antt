@@ -4,7 +4,6 @@ use Rattle.framing.specs.Read.{spans_of}
 use Rattle.values.specs.Read.{scalar_read}
 use Rattle.values.specs.declared.value.Scalar.{Scalar as ScalarEnum}
 use Rattle.records.specs.Words.{scalar_words}
-use borrow.Author.Rules.{rules}
 use Rattle.records.proofs.words.scalar_words.Goals as goal
 
 pub returns-in-Null : goal.returns-in-Null

@@ -1,5 +1,4 @@
 -- `stamp_words` meets its contract: each word is the one that the definition has there.
-use borrow.Author.Rules.{rules}
 use Rattle.records.proofs.words.stamp_words.Goals as goal
 
 pub returns : goal.returns

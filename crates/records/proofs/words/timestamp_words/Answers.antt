@@ -1,5 +1,4 @@
 -- `timestamp_words` meets its contract: each arm is a case of the words.
-use borrow.Author.Rules.{rules}
 use mathlib.Core.Path.{◌≡◌, refl, ◌∙◌, sym, ap}
 use Rattle.numbers.specs.Outcome.{Outcome, gives, refuses, and_then}
 use Rattle.framing.specs.Spans.{Spans}
