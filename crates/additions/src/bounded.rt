@@ -52,8 +52,7 @@ fn bounded_by_kind(
 }
 
 // One step past `most` pads at most: the record of `ion_map_step`, or one of kind 4.
-#[unsafe(no_mangle)]
-pub extern "C" fn ion_map_step_bounded(
+pub fn ion_map_step_bounded(
     map: &[u8],
     start: usize,
     end: usize,

@@ -29,13 +29,7 @@ fn bytes_words(kind: u64, size: PackedSize) -> [u64; RECORD_WORDS]
 }
 
 // How many bytes a map has once it is packed.
-#[unsafe(no_mangle)]
-pub extern "C" fn ion_map_packed_size(
-    map: &[u8],
-    limit: usize,
-    deepest: usize,
-    out: &mut [u8],
-) -> u64
+pub fn ion_map_packed_size(map: &[u8], limit: usize, deepest: usize, out: &mut [u8]) -> u64
     ensures value { result ≡ returned out.old (size_of limit deepest map.now) }
     ensures out_after { out.new ≡ record_in (size_words (size_of limit deepest map.now)) out.old }
 {
@@ -43,8 +37,7 @@ pub extern "C" fn ion_map_packed_size(
 }
 
 // Packs a map into the buffer `packed`.
-#[unsafe(no_mangle)]
-pub extern "C" fn ion_map_pack(
+pub fn ion_map_pack(
     map: &[u8],
     limit: usize,
     deepest: usize,

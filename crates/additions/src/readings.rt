@@ -20,14 +20,7 @@ use records::words::{decimal_words, timestamp_words};
 use values::value::read_timestamp;
 
 // How many field IDs the struct step at `position` in the part start..end began to read; 0 where it is refused with 68 or 50.
-#[unsafe(no_mangle)]
-pub extern "C" fn ion_map_ids(
-    map: &[u8],
-    start: usize,
-    end: usize,
-    position: usize,
-    limit: usize,
-) -> u64
+pub fn ion_map_ids(map: &[u8], start: usize, end: usize, position: usize, limit: usize) -> u64
     ensures { result ≡ exported_ids limit map.now start end position }
 {
     if position < start {
@@ -37,8 +30,7 @@ pub extern "C" fn ion_map_ids(
 }
 
 // Splits the decimal whose body is start..end.
-#[unsafe(no_mangle)]
-pub extern "C" fn ion_map_decimal(map: &[u8], start: usize, end: usize, out: &mut [u8]) -> u64
+pub fn ion_map_decimal(map: &[u8], start: usize, end: usize, out: &mut [u8]) -> u64
     ensures value { result ≡ returned out.old (decimal map.now start end) }
     ensures out_after { out.new ≡ record_in (decimal_words start (decimal map.now start end)) out.old }
 {
@@ -46,8 +38,7 @@ pub extern "C" fn ion_map_decimal(map: &[u8], start: usize, end: usize, out: &mu
 }
 
 // Reads the value at `position` of the part start..end, and what it says where it is a timestamp.
-#[unsafe(no_mangle)]
-pub extern "C" fn ion_map_timestamp(
+pub fn ion_map_timestamp(
     map: &[u8],
     start: usize,
     end: usize,
@@ -77,8 +68,7 @@ fn check_words(checked: Checked) -> [u64; CHECK_WORDS]
 }
 
 // Checks the whole map: every value's places, annotations and scalar, at every depth. Its record of sixteen words has the counts of what the map holds.
-#[unsafe(no_mangle)]
-pub extern "C" fn ion_map_check(map: &[u8], limit: usize, deepest: usize, out: &mut [u8]) -> u64
+pub fn ion_map_check(map: &[u8], limit: usize, deepest: usize, out: &mut [u8]) -> u64
     ensures value { result ≡ check_returned out.old (whole_check limit deepest map.now) }
     ensures out_after { out.new ≡ check_in (check_words (whole_check limit deepest map.now)) out.old }
 {

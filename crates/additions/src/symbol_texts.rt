@@ -12,8 +12,7 @@ use records::symbol_words::{symbols_words, text_words};
 use symbols::symbols::{symbol_text, symbols_at, text_of};
 
 // The text of an ID at a place.
-#[unsafe(no_mangle)]
-pub extern "C" fn ion_map_text(
+pub fn ion_map_text(
     map: &[u8],
     system: &[u8],
     start: usize,
@@ -33,8 +32,7 @@ pub extern "C" fn ion_map_text(
 }
 
 // The list of the table that rules at a place.
-#[unsafe(no_mangle)]
-pub extern "C" fn ion_map_symbols(
+pub fn ion_map_symbols(
     map: &[u8],
     system: &[u8],
     start: usize,
@@ -53,8 +51,7 @@ pub extern "C" fn ion_map_symbols(
 }
 
 // The text of an ID under the table whose list has the body start..end, which is empty where no list rules.
-#[unsafe(no_mangle)]
-pub extern "C" fn ion_map_symbol_text(
+pub fn ion_map_symbol_text(
     map: &[u8],
     system: &[u8],
     start: usize,

@@ -119,8 +119,7 @@ fn put_steps(
 }
 
 // As many steps as `out` has room for, one record after the other, up to an end or a refusal. `count` is how many records were put.
-#[unsafe(no_mangle)]
-pub extern "C" fn ion_map_steps(
+pub fn ion_map_steps(
     map: &[u8],
     start: usize,
     end: usize,

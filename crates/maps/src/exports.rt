@@ -45,8 +45,7 @@ fn put_inside(rules: Rules, map: &[u8], at: usize, end: usize, limit: usize, out
 
 // One step, by the part's kind: 0 a stream, 1 the body of a list or a sexp, 2 the body of a struct. Its record is put at the start of `out`; returned is 0 or
 // the refusal's number.
-#[unsafe(no_mangle)]
-pub extern "C" fn ion_map_step(
+pub fn ion_map_step(
     map: &[u8],
     start: usize,
     end: usize,

@@ -32,8 +32,7 @@ fn annotation_at(map: &[u8], start: usize, end: usize, position: usize) -> [u64;
     annotation_words(position, read_annotation(map, position, end))
 }
 
-#[unsafe(no_mangle)]
-pub extern "C" fn ion_map_annotation(
+pub fn ion_map_annotation(
     map: &[u8],
     start: usize,
     end: usize,
@@ -62,8 +61,7 @@ fn body_at(
     }
 }
 
-#[unsafe(no_mangle)]
-pub extern "C" fn ion_map_step_in(
+pub fn ion_map_step_in(
     map: &[u8],
     start: usize,
     end: usize,
@@ -93,8 +91,7 @@ fn scalar_at(
     }
 }
 
-#[unsafe(no_mangle)]
-pub extern "C" fn ion_map_scalar(
+pub fn ion_map_scalar(
     map: &[u8],
     start: usize,
     end: usize,
@@ -158,8 +155,7 @@ fn number_at(
     number_by(map, end, position, form, size)
 }
 
-#[unsafe(no_mangle)]
-pub extern "C" fn ion_map_number(
+pub fn ion_map_number(
     map: &[u8],
     start: usize,
     end: usize,

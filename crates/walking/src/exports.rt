@@ -8,8 +8,7 @@ ghost use Rattle.walking.specs.Calls.{items_in};
 use crate::walk::count_items;
 
 // How many items at most `most` calls of the walk hand out, from the map's start; 0 where a limit is outside its range.
-#[unsafe(no_mangle)]
-pub extern "C" fn ion_map_walked(map: &[u8], most: u64, limit: usize, deepest: usize) -> u64
+pub fn ion_map_walked(map: &[u8], most: u64, limit: usize, deepest: usize) -> u64
     ensures { result ≡ items_in (take most (whole_walk limit deepest map.now)) }
 {
     count_items(map, most, limit, deepest)

@@ -48,8 +48,7 @@ fn outside() -> Written
 }
 
 // Writes a null of a type, by its type code: 0 to 13.
-#[unsafe(no_mangle)]
-pub extern "C" fn ion_map_write_null(type_code: usize, to: &mut [u8], out: &mut [u8]) -> u64
+pub fn ion_map_write_null(type_code: usize, to: &mut [u8], out: &mut [u8]) -> u64
     ensures { (limit deepest : ℕ) → Wrote (write_of limit deepest (null type_code) (length to.old)) (written (null type_code)) to.old to.new out.old out.new result }
 {
     if out.len() < RECORD_SIZE {
@@ -59,8 +58,7 @@ pub extern "C" fn ion_map_write_null(type_code: usize, to: &mut [u8], out: &mut 
 }
 
 // Writes a bool: 0 or 1.
-#[unsafe(no_mangle)]
-pub extern "C" fn ion_map_write_bool(value: u64, to: &mut [u8], out: &mut [u8]) -> u64
+pub fn ion_map_write_bool(value: u64, to: &mut [u8], out: &mut [u8]) -> u64
     ensures { (limit deepest : ℕ) → Wrote (flagged value (write_of limit deepest (bool (eqb value 1)) (length to.old))) (written (bool (eqb value 1))) to.old to.new out.old out.new result }
 {
     if out.len() < RECORD_SIZE {
@@ -73,13 +71,7 @@ pub extern "C" fn ion_map_write_bool(value: u64, to: &mut [u8], out: &mut [u8]) 
 }
 
 // Writes an int of this magnitude, the most significant byte first; it is negative where the flag is 1.
-#[unsafe(no_mangle)]
-pub extern "C" fn ion_map_write_int(
-    magnitude: &[u8],
-    negative: u64,
-    to: &mut [u8],
-    out: &mut [u8],
-) -> u64
+pub fn ion_map_write_int(magnitude: &[u8], negative: u64, to: &mut [u8], out: &mut [u8]) -> u64
     ensures { (limit deepest : ℕ) → Wrote (flagged negative (write_of limit deepest (int (eqb negative 1) magnitude.now) (length to.old))) (written (int (eqb negative 1) magnitude.now)) to.old to.new out.old out.new result }
 {
     if out.len() < RECORD_SIZE {
@@ -92,8 +84,7 @@ pub extern "C" fn ion_map_write_int(
 }
 
 // Writes the float with these 64 bits.
-#[unsafe(no_mangle)]
-pub extern "C" fn ion_map_write_float(bits: u64, to: &mut [u8], out: &mut [u8]) -> u64
+pub fn ion_map_write_float(bits: u64, to: &mut [u8], out: &mut [u8]) -> u64
     ensures { (limit deepest : ℕ) → Wrote (write_of limit deepest (float bits) (length to.old)) (written (float bits)) to.old to.new out.old out.new result }
 {
     if out.len() < RECORD_SIZE {
@@ -103,8 +94,7 @@ pub extern "C" fn ion_map_write_float(bits: u64, to: &mut [u8], out: &mut [u8]) 
 }
 
 // Writes a symbol by its ID.
-#[unsafe(no_mangle)]
-pub extern "C" fn ion_map_write_symbol(id: u64, to: &mut [u8], out: &mut [u8]) -> u64
+pub fn ion_map_write_symbol(id: u64, to: &mut [u8], out: &mut [u8]) -> u64
     ensures { (limit deepest : ℕ) → Wrote (write_of limit deepest (symbol id) (length to.old)) (written (symbol id)) to.old to.new out.old out.new result }
 {
     if out.len() < RECORD_SIZE {
@@ -114,8 +104,7 @@ pub extern "C" fn ion_map_write_symbol(id: u64, to: &mut [u8], out: &mut [u8]) -
 }
 
 // Writes a pad of this total size.
-#[unsafe(no_mangle)]
-pub extern "C" fn ion_map_write_pad(size: usize, to: &mut [u8], out: &mut [u8]) -> u64
+pub fn ion_map_write_pad(size: usize, to: &mut [u8], out: &mut [u8]) -> u64
     ensures { (limit deepest : ℕ) → Wrote (write_of limit deepest (pad size) (length to.old)) (written (pad size)) to.old to.new out.old out.new result }
 {
     if out.len() < RECORD_SIZE {
@@ -125,13 +114,7 @@ pub extern "C" fn ion_map_write_pad(size: usize, to: &mut [u8], out: &mut [u8]) 
 }
 
 // Writes a decimal, a timestamp, a string, a clob or a blob, by its type code (5, 6, 8, 9, 10) and its representation.
-#[unsafe(no_mangle)]
-pub extern "C" fn ion_map_write_scalar(
-    type_code: usize,
-    body: &[u8],
-    to: &mut [u8],
-    out: &mut [u8],
-) -> u64
+pub fn ion_map_write_scalar(type_code: usize, body: &[u8], to: &mut [u8], out: &mut [u8]) -> u64
     ensures { (limit deepest : ℕ) → Wrote (write_of limit deepest (scalar type_code body.now) (length to.old)) (written (scalar type_code body.now)) to.old to.new out.old out.new result }
 {
     if out.len() < RECORD_SIZE {
@@ -142,8 +125,7 @@ pub extern "C" fn ion_map_write_scalar(
 
 // Writes a list, a sexp or an unordered struct, by its type code (11, 12, 13) and its body. `limit` is the most bytes that a value's annotations may have,
 // `deepest` the depth at which a container is too deep.
-#[unsafe(no_mangle)]
-pub extern "C" fn ion_map_write_container(
+pub fn ion_map_write_container(
     type_code: usize,
     body: &[u8],
     limit: usize,
@@ -160,8 +142,7 @@ pub extern "C" fn ion_map_write_container(
 }
 
 // Writes a wrapper of these annotation bytes around a value, with the same limits.
-#[unsafe(no_mangle)]
-pub extern "C" fn ion_map_write_wrapper(
+pub fn ion_map_write_wrapper(
     annotations: &[u8],
     value: &[u8],
     limit: usize,
