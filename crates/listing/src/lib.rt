@@ -1,10 +1,13 @@
 // Writes the walk of a map as text, a line for each answer.
-ghost use Rattle.std.specs.Prelude.{◌≡◌, length};
+#![tactic(auto)]
+
+ghost use Rattle.std.specs.Prelude.{◌≡◌, ◌≤◌, length, IfOk};
 
 use framing::encoded_value::EncodedValue;
-use libc::STDOUT_FILENO;
 use maps::walk::Walk;
 use numbers::refusal::{INPUT_TOO_LONG, Refusal};
+use std::io;
+use std::io::{Print, Read, Write};
 use stepping::cursor::{Item, is_last};
 
 // The most bytes of a map that are listed.
@@ -31,18 +34,15 @@ fn put_byte(page: &mut [u8], taken: usize, byte: u8) -> usize {
 
 fn put_text(page: &mut [u8], taken: usize, text: &[u8]) -> usize {
     let mut end = taken;
-    let mut i = 0;
-    while i < text.len() {
-        end = put_byte(page, end, text[i]);
-        i += 1;
+    for byte in text {
+        end = put_byte(page, end, *byte);
     }
     end
 }
 
 fn put_decimal(page: &mut [u8], taken: usize, n: u64) -> usize {
-    let mut digits = [0u8; 20];
-    let k = io::decimal(n, &mut digits);
-    put_text(page, taken, &digits[..k])
+    let mut digits = itoa::Buffer::new();
+    put_text(page, taken, digits.format(n).as_bytes())
 }
 
 // A number, after a space.
@@ -131,44 +131,42 @@ fn put_answer(page: &mut [u8], taken: usize, depth: usize, item: Item) -> usize 
 }
 
 // Writes out what is taken of the page.
-fn flush(page: &[u8], taken: usize) {
+fn flush(rt: &impl Print, page: &[u8], taken: usize) -> io::Result<()> {
     if taken <= page.len() {
-        io::write_all(STDOUT_FILENO, &page[..taken]);
+        io::writer(rt).write_all(&page[..taken])?;
     }
+    Ok(())
 }
 
 // Writes the page out where it has no room for another line. How many bytes are then taken.
-fn written(page: &[u8], taken: usize) -> usize {
+fn written(rt: &impl Print, page: &[u8], taken: usize) -> io::Result<usize> {
     if page.len() < LINE {
-        return taken;
+        return Ok(taken);
     }
     if taken <= page.len() - LINE {
-        return taken;
+        return Ok(taken);
     }
-    flush(page, taken);
-    0
+    flush(rt, page, taken)?;
+    Ok(0)
 }
 
 // Writes the walk of a map, by a page. It has an answer for each byte at most, and the last.
-fn list_map(map: &[u8], page: &mut [u8]) {
+fn list_map(rt: &impl Print, map: &[u8], page: &mut [u8]) -> io::Result<()> {
     let mut taken = 0;
     let mut walk = Walk::start(map);
     let most = map.len() + 1;
-    let mut i = 0;
-    while i < most {
+    for _ in 0..most {
         let walked = walk.next(map, ANNOTATION_LIMIT, DEPTH_LIMIT);
         let item = walked.item;
         taken = put_answer(page, taken, walked.depth, item);
         taken = put_byte(page, taken, b'\n');
-        taken = written(page, taken);
+        taken = written(rt, page, taken)?;
         if is_last(item) {
-            flush(page, taken);
-            return;
+            return flush(rt, page, taken);
         }
         walk = walked.next;
-        i += 1;
     }
-    flush(page, taken);
+    flush(rt, page, taken)
 }
 
 // Room for a map, and for one byte more.
@@ -184,24 +182,38 @@ fn blank() -> [u8; 8192]
     [0; 8192]
 }
 
-fn list_too_long(page: &mut [u8]) {
+fn list_too_long(rt: &impl Print, page: &mut [u8]) -> io::Result<()> {
     let refusal = Refusal {
         number: INPUT_TOO_LONG,
         position: MOST,
     };
     let mut taken = put_refusal(page, 0, refusal);
     taken = put_byte(page, taken, b'\n');
-    flush(page, taken);
+    flush(rt, page, taken)
+}
+
+// Reads until `space` is full or the input ends, and answers how many bytes there are.
+fn read_full(file: &mut impl Read, space: &mut [u8]) -> io::Result<usize>
+    ensures { IfOk result (λ n. n ≤ length space.new) }
+{
+    let mut done = 0;
+    while done < space.len() {
+        let n = file.read(&mut space[done..])?;
+        if n == 0 {
+            break;
+        }
+        done += n;
+    }
+    Ok(done)
 }
 
 // Writes the walk of the map that is read from a file; of one that is too long, only that.
-pub fn list_file(file: i32) {
+pub fn list_file(rt: &impl Print, file: &mut impl Read) -> io::Result<()> {
     let mut space = room();
     let mut page = blank();
-    let n = io::read_full(file, &mut space);
+    let n = read_full(file, &mut space)?;
     if MOST < n {
-        list_too_long(&mut page);
-        return;
+        return list_too_long(rt, &mut page);
     }
-    list_map(&space[..n], &mut page);
+    list_map(rt, &space[..n], &mut page)
 }

@@ -38,43 +38,17 @@ fn argument(line: &[u8], n: usize) -> usize {
 
 // Which word has the buffer's length, and 0 where the function takes no buffer.
 fn size_word(asked: &[u8]) -> usize {
-    if check::same(asked, b"walked") {
-        return 0;
-    }
-    if check::same(asked, b"ids") {
-        return 0;
-    }
-    if check::same(asked, b"check") {
-        return 2;
-    }
-    if check::same(asked, b"packed_size") {
-        return 2;
-    }
-    if check::same(asked, b"pack") {
-        return 2;
-    }
     if write_calls::is_write(asked) {
         return 2;
     }
-    if check::same(asked, b"decimal") {
-        return 4;
+    match asked {
+        b"walked" | b"ids" => 0,
+        b"check" | b"packed_size" | b"pack" => 2,
+        b"decimal" => 4,
+        b"number" | b"step_bounded" => 7,
+        b"step" | b"steps" | b"text" => 6,
+        _ => 5,
     }
-    if check::same(asked, b"number") {
-        return 7;
-    }
-    if check::same(asked, b"step_bounded") {
-        return 7;
-    }
-    if check::same(asked, b"step") {
-        return 6;
-    }
-    if check::same(asked, b"steps") {
-        return 6;
-    }
-    if check::same(asked, b"text") {
-        return 6;
-    }
-    5
 }
 
 fn size_of(line: &[u8]) -> usize {
@@ -132,100 +106,76 @@ fn called(line: &[u8], map: &[u8], out: &mut [u8]) -> Line {
     let start = argument(line, 2);
     let end = argument(line, 3);
     let position = argument(line, 4);
-    if check::same(asked, b"step") {
-        let kind = argument(line, 5);
-        return Line::new().number(ion_map_step(
-            map,
-            start,
-            end,
-            position,
-            kind as u64,
-            number_or(line, 7, ANNOTATION_LIMIT),
-            out,
-        ));
-    }
-    if check::same(asked, b"steps") {
-        return steps(line, map, start, end, position, out);
-    }
-    if check::same(asked, b"step_bounded") {
-        return step_bounded(line, map, start, end, position, out);
-    }
-    if check::same(asked, b"annotation") {
-        return Line::new().number(ion_map_annotation(map, start, end, position, out));
-    }
-    if check::same(asked, b"step_in") {
-        return Line::new().number(ion_map_step_in(
+    match asked {
+        b"step" => {
+            let kind = argument(line, 5);
+            Line::new().number(ion_map_step(
+                map,
+                start,
+                end,
+                position,
+                kind as u64,
+                number_or(line, 7, ANNOTATION_LIMIT),
+                out,
+            ))
+        }
+        b"steps" => steps(line, map, start, end, position, out),
+        b"step_bounded" => step_bounded(line, map, start, end, position, out),
+        b"annotation" => Line::new().number(ion_map_annotation(map, start, end, position, out)),
+        b"step_in" => Line::new().number(ion_map_step_in(
             map,
             start,
             end,
             position,
             number_or(line, 6, ANNOTATION_LIMIT),
             out,
-        ));
-    }
-    if check::same(asked, b"scalar") {
-        return Line::new().number(ion_map_scalar(
+        )),
+        b"scalar" => Line::new().number(ion_map_scalar(
             map,
             start,
             end,
             position,
             number_or(line, 6, ANNOTATION_LIMIT),
             out,
-        ));
-    }
-    if check::same(asked, b"timestamp") {
-        return Line::new().number(ion_map_timestamp(
+        )),
+        b"timestamp" => Line::new().number(ion_map_timestamp(
             map,
             start,
             end,
             position,
             number_or(line, 6, ANNOTATION_LIMIT),
             out,
-        ));
-    }
-    if check::same(asked, b"number") {
-        let form = argument(line, 5);
-        let size = argument(line, 6);
-        return Line::new().number(ion_map_number(
-            map,
-            start,
-            end,
-            position,
-            form as u64,
-            size,
-            out,
-        ));
-    }
-    if check::same(asked, b"decimal") {
-        return Line::new().number(ion_map_decimal(map, start, end, out));
-    }
-    if check::same(asked, b"walked") {
-        let most = start;
-        return Line::new().number(ion_map_walked(
-            map,
-            most as u64,
-            number_or(line, 3, ANNOTATION_LIMIT),
-            number_or(line, 4, DEPTH_LIMIT),
-        ));
-    }
-    if check::same(asked, b"check") {
-        return Line::new().number(ion_map_check(
+        )),
+        b"number" => {
+            let form = argument(line, 5);
+            let size = argument(line, 6);
+            Line::new().number(ion_map_number(map, start, end, position, form as u64, size, out))
+        }
+        b"decimal" => Line::new().number(ion_map_decimal(map, start, end, out)),
+        b"walked" => {
+            let most = start;
+            Line::new().number(ion_map_walked(
+                map,
+                most as u64,
+                number_or(line, 3, ANNOTATION_LIMIT),
+                number_or(line, 4, DEPTH_LIMIT),
+            ))
+        }
+        b"check" => Line::new().number(ion_map_check(
             map,
             number_or(line, 3, ANNOTATION_LIMIT),
             number_or(line, 4, DEPTH_LIMIT),
             out,
-        ));
-    }
-    if check::same(asked, b"ids") {
-        return Line::new().number(ion_map_ids(
+        )),
+        b"ids" => Line::new().number(ion_map_ids(
             map,
             start,
             end,
             position,
             number_or(line, 5, ANNOTATION_LIMIT),
-        ));
+        )),
+        _ => packed_calls::called(line, map, out),
     }
-    packed_calls::called(line, map, out)
 }
 
 // The same with the first `size` bytes of `out` as the buffer; with more than there is room for, no call.
@@ -243,11 +193,9 @@ fn wide(b: u8) -> u64 {
 // Bytes as a number, least significant byte first, modulo 2^64.
 fn little_endian(bytes: &[u8]) -> u64 {
     let mut value: u64 = 0;
-    let mut i = bytes.len();
-    while 0 < i {
-        i -= 1;
+    for byte in bytes.iter().rev() {
         let higher = value % 0x100_0000_0000_0000 * 256;
-        value = std::num::wrapping_add_u64(higher, wide(bytes[i]));
+        value = higher.wrapping_add(wide(*byte));
     }
     value
 }

@@ -38,17 +38,14 @@ fn packed(line: &[u8], map: &[u8], out: &mut [u8]) -> Line {
 
 // The call that a line asks for.
 pub fn called(line: &[u8], map: &[u8], out: &mut [u8]) -> Line {
-    let asked = word(line, 0);
-    if check::same(asked, b"packed_size") {
-        return Line::new().number(ion_map_packed_size(
+    match word(line, 0) {
+        b"packed_size" => Line::new().number(ion_map_packed_size(
             map,
             number_or(line, 3, ANNOTATION_LIMIT),
             number_or(line, 4, DEPTH_LIMIT),
             out,
-        ));
+        )),
+        b"pack" => packed(line, map, out),
+        _ => write_calls::called(line, map, out),
     }
-    if check::same(asked, b"pack") {
-        return packed(line, map, out);
-    }
-    write_calls::called(line, map, out)
 }

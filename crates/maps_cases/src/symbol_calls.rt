@@ -11,25 +11,27 @@ fn called_with(line: &[u8], map: &[u8], system: &[u8], out: &mut [u8]) -> Line {
     let start = number(word(line, 2));
     let end = number(word(line, 3));
     let place = number(word(line, 4));
-    if check::same(asked, b"text") {
-        let id = number(word(line, 5));
-        let limit = number_or(line, 7, ANNOTATION_LIMIT);
-        return Line::new().number(ion_map_text(map, system, start, end, place, id, limit, out));
-    }
     let limit = number_or(line, 6, ANNOTATION_LIMIT);
-    if check::same(asked, b"symbols") {
-        return Line::new().number(ion_map_symbols(map, system, start, end, place, limit, out));
+    match asked {
+        b"text" => {
+            let id = number(word(line, 5));
+            let limit = number_or(line, 7, ANNOTATION_LIMIT);
+            Line::new().number(ion_map_text(map, system, start, end, place, id, limit, out))
+        }
+        b"symbols" => {
+            Line::new().number(ion_map_symbols(map, system, start, end, place, limit, out))
+        }
+        b"symbol_text" => {
+            let id = place;
+            Line::new().number(ion_map_symbol_text(map, system, start, end, id, limit, out))
+        }
+        _ => Line::new().word(b"no such function"),
     }
-    if check::same(asked, b"symbol_text") {
-        let id = place;
-        return Line::new().number(ion_map_symbol_text(map, system, start, end, id, limit, out));
-    }
-    Line::new().word(b"no such function")
 }
 
 // Which word has the lent system text, behind the limit.
 fn system_word(asked: &[u8]) -> usize {
-    if check::same(asked, b"text") { 8 } else { 7 }
+    if matches!(asked, b"text") { 8 } else { 7 }
 }
 
 // The call that a line asks for: the system text is the nine texts where the line says no other.

@@ -17,7 +17,7 @@ const FILL: u8 = 0xAA;
 
 // Whether a function is one of those that write.
 pub fn is_write(asked: &[u8]) -> bool {
-    check::same(part(asked, 0, 6), b"write_")
+    asked.starts_with(b"write_")
 }
 
 // What writing a wrapper returns: the value's bytes are a word of the line.
@@ -38,48 +38,34 @@ fn wrapper(line: &[u8], annotations: &[u8], to: &mut [u8], out: &mut [u8]) -> Li
 fn around(line: &[u8], bytes: &[u8], to: &mut [u8], out: &mut [u8]) -> Line {
     let asked = word(line, 0);
     let said = number(word(line, 4));
-    if check::same(asked, b"write_int") {
-        return Line::new().number(ion_map_write_int(bytes, said as u64, to, out));
-    }
-    if check::same(asked, b"write_scalar") {
-        return Line::new().number(ion_map_write_scalar(said, bytes, to, out));
-    }
-    if check::same(asked, b"write_container") {
-        return Line::new().number(ion_map_write_container(
+    match asked {
+        b"write_int" => Line::new().number(ion_map_write_int(bytes, said as u64, to, out)),
+        b"write_scalar" => Line::new().number(ion_map_write_scalar(said, bytes, to, out)),
+        b"write_container" => Line::new().number(ion_map_write_container(
             said,
             bytes,
             number_or(line, 5, ANNOTATION_LIMIT),
             number_or(line, 6, DEPTH_LIMIT),
             to,
             out,
-        ));
+        )),
+        b"write_wrapper" => wrapper(line, bytes, to, out),
+        _ => Line::new().word(b"no such function"),
     }
-    if check::same(asked, b"write_wrapper") {
-        return wrapper(line, bytes, to, out);
-    }
-    Line::new().word(b"no such function")
 }
 
 // What the call that a line asks for returns, with `to` as the buffer for what is written.
 fn wrote(line: &[u8], bytes: &[u8], to: &mut [u8], out: &mut [u8]) -> Line {
     let asked = word(line, 0);
     let said = number(word(line, 4));
-    if check::same(asked, b"write_null") {
-        return Line::new().number(ion_map_write_null(said, to, out));
+    match asked {
+        b"write_null" => Line::new().number(ion_map_write_null(said, to, out)),
+        b"write_bool" => Line::new().number(ion_map_write_bool(said as u64, to, out)),
+        b"write_float" => Line::new().number(ion_map_write_float(said as u64, to, out)),
+        b"write_symbol" => Line::new().number(ion_map_write_symbol(said as u64, to, out)),
+        b"write_pad" => Line::new().number(ion_map_write_pad(said, to, out)),
+        _ => around(line, bytes, to, out),
     }
-    if check::same(asked, b"write_bool") {
-        return Line::new().number(ion_map_write_bool(said as u64, to, out));
-    }
-    if check::same(asked, b"write_float") {
-        return Line::new().number(ion_map_write_float(said as u64, to, out));
-    }
-    if check::same(asked, b"write_symbol") {
-        return Line::new().number(ion_map_write_symbol(said as u64, to, out));
-    }
-    if check::same(asked, b"write_pad") {
-        return Line::new().number(ion_map_write_pad(said, to, out));
-    }
-    around(line, bytes, to, out)
 }
 
 // The same with the first `room` bytes of a buffer; with more than there is room for, no call.

@@ -1,6 +1,8 @@
 // Reads a map from standard input and writes its walk.
-use libc::STDIN_FILENO;
+#![tactic(auto)]
 
-fn main() {
-    listing::list_file(STDIN_FILENO);
+use std::io;
+
+fn main(rt: HostRuntime) -> io::Result<()> {
+    listing::list_file(&rt, &mut rt.reader())
 }

@@ -1,24 +1,23 @@
 // Writes what `mapspans` writes for each of the files that its arguments name, under the file's name.
-use libc::STDOUT_FILENO;
+#![tactic(auto)]
 
-fn list(name: &[u8]) {
-    let file = os::open_read(name);
-    if file < 0 {
-        os::fail(name);
-        return;
+use std::io::{Eprint, Print};
+use std::rt::Files;
+use std::{env, fs, io};
+
+fn list(rt: &(impl Files + Print + Eprint), name: &str) -> io::Result<()> {
+    match fs::open(rt, name) {
+        Ok(mut file) => {
+            println!(rt; "{name}:")?;
+            listing::list_file(rt, &mut file)
+        }
+        Err(error) => eprintln!(rt; "{name}: {error}"),
     }
-    io::write_all(STDOUT_FILENO, name);
-    io::write_all(STDOUT_FILENO, b":\n");
-    listing::list_file(file);
-    libc::close(file);
 }
 
-fn main() {
-    let mut i = 1;
-    while i < os::arg_count() {
-        let mut name = io::buffer();
-        let n = os::arg(i, &mut name);
-        list(&name[..n]);
-        i += 1;
+fn main(rt: HostRuntime) -> io::Result<()> {
+    for name in env::args(&rt)?.skip(1) {
+        list(&rt, name.as_str())?;
     }
+    Ok(())
 }

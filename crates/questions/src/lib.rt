@@ -1,4 +1,6 @@
 // Stored questions: a file has lines `QUESTION = ANSWER`, a program answers each question, and the answers are compared.
 // Nothing here knows what is asked.
+#![tactic(auto)]
+
 pub mod comparing;
 pub mod text;

@@ -17,14 +17,12 @@ pub fn part(text: &[u8], a: usize, b: usize) -> &[u8] {
 pub fn find(text: &[u8], at: usize, byte: u8) -> usize
     ensures { at ≤ result }
 {
-    let mut i = at;
-    while i < text.len() {
+    for i in at..text.len() {
         if text[i] == byte {
             return i;
         }
-        i += 1;
     }
-    i
+    at.max(text.len())
 }
 
 // One place on.
@@ -35,10 +33,8 @@ pub fn after(at: usize) -> usize {
 // The word of a line that has n words before it. A space ends a word.
 pub fn word(line: &[u8], n: usize) -> &[u8] {
     let mut at = 0;
-    let mut k = 0;
-    while k < n {
+    for _ in 0..n {
         at = after(find(line, at, b' '));
-        k += 1;
     }
     part(line, at, find(line, at, b' '))
 }
@@ -46,22 +42,20 @@ pub fn word(line: &[u8], n: usize) -> &[u8] {
 // A decimal number, modulo 2^64.
 pub fn number(word: &[u8]) -> usize {
     let mut value: usize = 0;
-    let mut i = 0;
-    while i < word.len() {
+    for glyph in word {
         let tenfold = value % 1844674407370955162 * 10;
-        let digit = word[i] % 16;
-        value = std::num::wrapping_add_usize(tenfold, digit as usize);
-        i += 1;
+        let digit = glyph % 16;
+        value = tenfold.wrapping_add(digit as usize);
     }
     value
 }
 
 // The worth of a hexadecimal digit, in upper case.
 fn digit(glyph: u8) -> u8 {
-    if glyph < b'a' {
+    if glyph < b'A' {
         glyph % 16
     } else {
-        (glyph - b'a') % 6 + 10
+        (glyph - b'A') % 6 + 10
     }
 }
 
@@ -78,15 +72,11 @@ pub fn number_or(line: &[u8], n: usize, otherwise: usize) -> usize {
 
 // Puts the bytes that a word spells in hexadecimal at the start of `bytes`, and answers how many there are.
 pub fn hex(word: &[u8], bytes: &mut [u8]) -> usize {
-    let mut n = 0;
-    while n < word.len() / 2 {
-        if bytes.len() <= n {
-            return n;
-        }
-        let high = digit(word[2 * n]) % 16;
-        let low = digit(word[2 * n + 1]) % 16;
-        bytes[n] = high * 16 + low;
-        n += 1;
+    let n = bytes.len().min(word.len() / 2);
+    for i in 0..n {
+        let high = digit(word[2 * i]) % 16;
+        let low = digit(word[2 * i + 1]) % 16;
+        bytes[i] = high * 16 + low;
     }
     n
 }
@@ -117,10 +107,8 @@ impl Line {
 
     pub fn bytes_of(self, text: &[u8]) -> Self {
         let mut line = self;
-        let mut i = 0;
-        while i < text.len() {
-            line = line.byte(text[i]);
-            i += 1;
+        for byte in text {
+            line = line.byte(*byte);
         }
         line
     }
@@ -135,9 +123,8 @@ impl Line {
     }
 
     pub fn number(self, n: u64) -> Self {
-        let mut text = [0u8; 20];
-        let k = io::decimal(n, &mut text);
-        self.word(&text[..k])
+        let mut digits = itoa::Buffer::new();
+        self.word(digits.format(n).as_bytes())
     }
 
     pub fn position(self, n: usize) -> Self {
@@ -150,10 +137,8 @@ impl Line {
 
     fn hex_digits(self, bytes: &[u8]) -> Self {
         let mut line = self;
-        let mut i = 0;
-        while i < bytes.len() {
-            line = line.hex_byte(bytes[i]);
-            i += 1;
+        for byte in bytes {
+            line = line.hex_byte(*byte);
         }
         line
     }
@@ -177,7 +162,7 @@ fn glyph(digit: u8) -> u8 {
     if digit < 10 {
         b'0' + digit
     } else {
-        b'a' + (digit - 10) % 6
+        b'A' + (digit - 10) % 6
     }
 }
 
@@ -205,10 +190,10 @@ fn unmarked(expected: &[u8]) -> &[u8] {
 
 // Whether a word is the one expected. A `?` stands for any word.
 fn same_word(expected: &[u8], word: &[u8]) -> bool {
-    if check::same(expected, b"?") {
+    if matches!(expected, b"?") {
         return 0 < word.len();
     }
-    check::same(expected, word)
+    expected == word
 }
 
 // Whether an answer is the one expected, word for word.

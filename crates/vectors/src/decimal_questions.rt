@@ -63,14 +63,10 @@ fn decimal_rest(s: &[u8], start: usize, end: usize) -> Line {
 
 // The answer to a question on a decimal's body, and nothing where it is on something else.
 pub fn answer(asked: &[u8], s: &[u8], start: usize, end: usize) -> Line {
-    if check::same(asked, b"decimal") {
-        return decimal(s, start, end);
+    match asked {
+        b"decimal" => decimal(s, start, end),
+        b"decimalparts" => decimal_parts(s, start, end),
+        b"decimalrest" => decimal_rest(s, start, end),
+        _ => Line::new(),
     }
-    if check::same(asked, b"decimalparts") {
-        return decimal_parts(s, start, end);
-    }
-    if check::same(asked, b"decimalrest") {
-        return decimal_rest(s, start, end);
-    }
-    Line::new()
 }

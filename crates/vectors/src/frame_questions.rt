@@ -90,35 +90,23 @@ fn cursor(at: usize, step: Annotation) -> usize {
 fn annotations(s: &[u8], at: usize, end: usize, count: usize) -> Line {
     let mut line = Line::new();
     let mut from = at;
-    let mut i = 0;
-    while i < count {
+    for _ in 0..count {
         let step = annotations_iterator::read_annotation(s, from, end);
         line = annotation(line.joined(), step);
         from = cursor(from, step);
-        i += 1;
     }
     line
 }
 
 // The answer to a question on frames, and nothing where it is on something else.
 pub fn answer(asked: &[u8], s: &[u8], at: usize, end: usize, count: usize, limit: usize) -> Line {
-    if check::same(asked, b"length") {
-        return length(s, at, end);
+    match asked {
+        b"length" => length(s, at, end),
+        b"pad" => pad(s, at, end),
+        b"wrapper" => wrapper(s, at, end, limit),
+        b"value" => value(s, at, end, limit),
+        b"frame" => frame(s, at, end, limit),
+        b"annotations" => annotations(s, at, end, count),
+        _ => Line::new(),
     }
-    if check::same(asked, b"pad") {
-        return pad(s, at, end);
-    }
-    if check::same(asked, b"wrapper") {
-        return wrapper(s, at, end, limit);
-    }
-    if check::same(asked, b"value") {
-        return value(s, at, end, limit);
-    }
-    if check::same(asked, b"frame") {
-        return frame(s, at, end, limit);
-    }
-    if check::same(asked, b"annotations") {
-        return annotations(s, at, end, count);
-    }
-    Line::new()
 }

@@ -1,5 +1,7 @@
 // Answers the questions of the files that its arguments name on the layers below the exports, and compares each answer with
 // the one written there: for each file it writes how many agree and how many differ, and each one that differs.
+#![tactic(auto)]
+
 mod check_questions;
 mod decimal_questions;
 mod frame_questions;
@@ -12,6 +14,9 @@ mod walk_questions;
 use questions::comparing::Tally;
 use questions::text::Line;
 use questions::{comparing, text};
+use std::io::{Eprint, Print};
+use std::rt::Files;
+use std::{env, io};
 
 // The limits where a question says none.
 const ANNOTATION_LIMIT: usize = 255;
@@ -59,51 +64,42 @@ fn answer(line: &[u8]) -> Line {
     if 0 < on_timestamps.len {
         return on_timestamps;
     }
-    if check::same(asked, b"walk") {
-        return walk_questions::walk(
-            s,
-            a,
-            b,
-            text::number_or(line, 4, ANNOTATION_LIMIT),
-            text::number_or(line, 5, DEPTH_LIMIT),
-        );
+    match asked {
+        b"walk" => {
+            walk_questions::walk(
+                s,
+                a,
+                b,
+                text::number_or(line, 4, ANNOTATION_LIMIT),
+                text::number_or(line, 5, DEPTH_LIMIT),
+            )
+        }
+        b"check" => check_questions::whole(s, ANNOTATION_LIMIT, DEPTH_LIMIT),
+        _ => Line::new().word(b"no such question"),
     }
-    if check::same(asked, b"check") {
-        return check_questions::whole(s, ANNOTATION_LIMIT, DEPTH_LIMIT);
-    }
-    Line::new().word(b"no such question")
 }
 
-fn compare_all(file: &[u8]) -> Tally {
+fn compare_all(rt: &impl Print, file: &[u8]) -> io::Result<Tally> {
     let mut tally = Tally {
         agree: 0,
         differ: 0,
     };
-    let mut at = 0;
-    while at < file.len() {
-        let end = text::find(file, at, b'\n');
-        let line = text::part(file, at, end);
-        tally = comparing::compare(line, answer(line), tally);
-        if file.len() <= end {
-            return tally;
-        }
-        at = end + 1;
+    for line in file.split(|byte| *byte == b'\n') {
+        tally = comparing::compare(rt, line, answer(line), tally)?;
     }
-    tally
+    Ok(tally)
 }
 
-fn report(name: &[u8]) {
+fn report(rt: &(impl Files + Print + Eprint), name: &str) -> io::Result<()> {
     let mut space = comparing::room();
-    let n = comparing::read_file(name, &mut space);
-    comparing::write_tally(name, compare_all(text::part(&space, 0, n)));
+    let n = comparing::read_file(rt, name, &mut space)?;
+    let tally = compare_all(rt, text::part(&space, 0, n))?;
+    comparing::write_tally(rt, name, tally)
 }
 
-fn main() {
-    let mut i = 1;
-    while i < os::arg_count() {
-        let mut name = io::buffer();
-        let n = os::arg(i, &mut name);
-        report(&name[..n]);
-        i += 1;
+fn main(rt: HostRuntime) -> io::Result<()> {
+    for name in env::args(&rt)?.skip(1) {
+        report(&rt, name.as_str())?;
     }
+    Ok(())
 }

@@ -68,13 +68,11 @@ pub fn magnitude(line: Line, first: u8, rest: &[u8]) -> Line {
         out = out.hex_byte(first);
         any = true;
     }
-    let mut i = 0;
-    while i < rest.len() {
-        if any || rest[i] != 0 {
-            out = out.hex_byte(rest[i]);
+    for byte in rest {
+        if any || *byte != 0 {
+            out = out.hex_byte(*byte);
             any = true;
         }
-        i += 1;
     }
     if any { out } else { out.byte(b'-') }
 }
@@ -127,20 +125,12 @@ fn descriptor(s: &[u8]) -> Line {
 
 // The answer to a question on numbers and descriptors, and nothing where it is on something else.
 pub fn answer(asked: &[u8], s: &[u8], at: usize, end: usize, length: usize) -> Line {
-    if check::same(asked, b"varuint") {
-        return var_uint(s, at, end);
+    match asked {
+        b"varuint" => var_uint(s, at, end),
+        b"varint" => var_int(s, at, end),
+        b"int" => int(s, at, end, length),
+        b"intparts" => int_parts(s, at, end, length),
+        b"descriptor" => descriptor(s),
+        _ => Line::new(),
     }
-    if check::same(asked, b"varint") {
-        return var_int(s, at, end);
-    }
-    if check::same(asked, b"int") {
-        return int(s, at, end, length);
-    }
-    if check::same(asked, b"intparts") {
-        return int_parts(s, at, end, length);
-    }
-    if check::same(asked, b"descriptor") {
-        return descriptor(s);
-    }
-    Line::new()
 }

@@ -117,14 +117,10 @@ pub fn answer(
     position: usize,
     limit: usize,
 ) -> Line {
-    if check::same(asked, b"scalar") {
-        return scalar(s, at, end, position, limit);
+    match asked {
+        b"scalar" => scalar(s, at, end, position, limit),
+        b"part" => part(s, at, end, position, limit),
+        b"stepin" => step_in(s, at, end, position, limit),
+        _ => Line::new(),
     }
-    if check::same(asked, b"part") {
-        return part(s, at, end, position, limit);
-    }
-    if check::same(asked, b"stepin") {
-        return step_in(s, at, end, position, limit);
-    }
-    Line::new()
 }

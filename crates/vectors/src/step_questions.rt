@@ -56,13 +56,11 @@ fn next(rules: Rules, s: &[u8], cursor: Cursor, limit: usize) -> Step {
 fn steps(rules: Rules, s: &[u8], at: usize, end: usize, count: usize, limit: usize) -> Line {
     let mut line = Line::new();
     let mut cursor = Cursor { at, end };
-    let mut i = 0;
-    while i < count {
+    for _ in 0..count {
         let step = next(rules, s, cursor, limit);
         let found = step.item;
         line = item(line.joined(), found);
         cursor = step.next;
-        i += 1;
     }
     line
 }
@@ -70,34 +68,22 @@ fn steps(rules: Rules, s: &[u8], at: usize, end: usize, count: usize, limit: usi
 // `streamleft BYTES AT END COUNT LIMIT`, `sequenceleft ..` and `structleft ..`: the cursor that so many steps leave.
 fn left(rules: Rules, s: &[u8], at: usize, end: usize, count: usize, limit: usize) -> Line {
     let mut cursor = Cursor { at, end };
-    let mut i = 0;
-    while i < count {
+    for _ in 0..count {
         let step = next(rules, s, cursor, limit);
         cursor = step.next;
-        i += 1;
     }
     Line::new().position(cursor.at).position(cursor.end)
 }
 
 // The answer to a question on steps, and nothing where it is on something else.
 pub fn answer(asked: &[u8], s: &[u8], at: usize, end: usize, count: usize, limit: usize) -> Line {
-    if check::same(asked, b"stream") {
-        return steps(Rules::Stream, s, at, end, count, limit);
+    match asked {
+        b"stream" => steps(Rules::Stream, s, at, end, count, limit),
+        b"sequence" => steps(Rules::Sequence, s, at, end, count, limit),
+        b"struct" => steps(Rules::Fields, s, at, end, count, limit),
+        b"streamleft" => left(Rules::Stream, s, at, end, count, limit),
+        b"sequenceleft" => left(Rules::Sequence, s, at, end, count, limit),
+        b"structleft" => left(Rules::Fields, s, at, end, count, limit),
+        _ => Line::new(),
     }
-    if check::same(asked, b"sequence") {
-        return steps(Rules::Sequence, s, at, end, count, limit);
-    }
-    if check::same(asked, b"struct") {
-        return steps(Rules::Fields, s, at, end, count, limit);
-    }
-    if check::same(asked, b"streamleft") {
-        return left(Rules::Stream, s, at, end, count, limit);
-    }
-    if check::same(asked, b"sequenceleft") {
-        return left(Rules::Sequence, s, at, end, count, limit);
-    }
-    if check::same(asked, b"structleft") {
-        return left(Rules::Fields, s, at, end, count, limit);
-    }
-    Line::new()
 }

@@ -64,11 +64,9 @@ fn read(s: &[u8], start: usize, end: usize, descriptor: usize, whole: bool) -> L
 
 // The answer to a question on a timestamp's body, and nothing where it is on something else.
 pub fn answer(asked: &[u8], s: &[u8], start: usize, end: usize, descriptor: usize) -> Line {
-    if check::same(asked, b"timestamp") {
-        return read(s, start, end, descriptor, true);
+    match asked {
+        b"timestamp" => read(s, start, end, descriptor, true),
+        b"instant" => read(s, start, end, 0, false),
+        _ => Line::new(),
     }
-    if check::same(asked, b"instant") {
-        return read(s, start, end, 0, false);
-    }
-    Line::new()
 }

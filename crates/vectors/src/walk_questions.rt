@@ -60,8 +60,7 @@ pub fn walk(s: &[u8], at: usize, end: usize, limit: usize, depth: usize) -> Line
         deep: false,
     };
     let most = s.len() + 1;
-    let mut i = 0;
-    while i < most {
+    for _ in 0..most {
         let walked = state.next(s, limit, depth);
         let item = walked.item;
         line = visited(line.joined(), walked.depth, item);
@@ -69,7 +68,6 @@ pub fn walk(s: &[u8], at: usize, end: usize, limit: usize, depth: usize) -> Line
             return line;
         }
         state = walked.next;
-        i += 1;
     }
     line
 }
