@@ -2,6 +2,7 @@
 -- Assumes nothing.
 use seplogic.Ra.Ura.{Ura}
 use prog.Model.{Model}
+use contract.Running.{Running}
 use types.Logic.{Logic}
 use contract.Lifetimes.{Lfts}
 use Rattle.numbers.proofs.Meaning.{var-uint-sound, var-uint-complete, var-int-sound, var-int-complete, ints-sound, ints-complete}
@@ -47,6 +48,8 @@ use Rattle.writing.proofs.OneByteJudged.{one_byte_judged}
 use Rattle.writing.proofs.ScalarsJudged.{scalars_judged, scalars_accepted}
 use Rattle.writing.proofs.BareJudged.{bare_judged, bare_accepted}
 use Rattle.writing.proofs.WrappersJudged.{wrappers_judged, wrappers_accepted}
+use Rattle.runs.specs.Program.{HasEntries}
+use Rattle.overwriting.specs.ProgramTexts.{HasLookups}
 use Rattle.runs.proofs.Overwriting.{overwriting}
 use Rattle.runs.proofs.OneBody.{still_reached}
 use Rattle.runs.proofs.PartSets.{parts-are-sets}
@@ -58,22 +61,22 @@ use Rattle.batches.proofs.RunsOfCalls.{runs_of_calls}
 use Rattle.batches.proofs.RecordsBegin.{records-begin}
 use Rattle.claims.specs.Claims.{Total, WholeRuns, Equal}
 
-module _ (M : Type 1) (𝓤 : Ura M) (𝓛 : Logic 𝓤) (𝓜 : Model 𝓤 𝓛.H) (κs : Lfts 1) where
-  pub total : Total M 𝓤 𝓛 𝓜 κs
-  total = record { ends = program_ends 𝓛 𝓜 κs; kept = refusals_keep; repeated = steps_repeat; inside = never_outside }
+module _ (M : Type 1) (𝓤 : Ura M) (𝓛 : Logic 𝓤) (𝓜 : Model 𝓤 𝓛.H) (𝓡 : Running 𝓤 𝓛.H 𝓜) (entries : HasEntries 𝓡.env) (lookups : HasLookups 𝓡.env) (κs : Lfts 1) where
+  pub total : Total M 𝓤 𝓛 𝓜 𝓡 entries lookups κs
+  total = record { ends = program_ends 𝓛 𝓜 𝓡 entries κs; kept = refusals_keep; repeated = steps_repeat; inside = never_outside }
 
-  pub whole_runs : WholeRuns M 𝓤 𝓛 𝓜 κs
+  pub whole_runs : WholeRuns M 𝓤 𝓛 𝓜 𝓡 entries lookups κs
   whole_runs =
       record {
-        tiled = program_tiling 𝓛 𝓜 κs;
-        overwritten = program_one_body 𝓛 𝓜 κs;
-        ends = program_ends 𝓛 𝓜 κs;
+        tiled = program_tiling 𝓛 𝓜 𝓡 entries κs;
+        overwritten = program_one_body 𝓛 𝓜 𝓡 entries κs;
+        ends = program_ends 𝓛 𝓜 𝓡 entries κs;
         exist = runs;
         reached = still_reached;
-        many_overwritten = program_overwriting 𝓛 𝓜 κs;
+        many_overwritten = program_overwriting 𝓛 𝓜 𝓡 entries κs;
         many_reached = overwriting;
         texts_stay = texts-stay;
-        program_texts_stay = program-texts-stay 𝓛 𝓜;
+        program_texts_stay = program-texts-stay 𝓛 𝓜 𝓡 lookups;
         parts_are_sets = parts-are-sets;
         exported = runs_of_calls;
         bounded_tiled = bounded_tiling;

@@ -5,6 +5,7 @@ use seplogic.Ra.Ura.{Ura}
 use prog.Model.{Model}
 use types.Logic.{Logic}
 use contract.Lifetimes.{Lfts}
+use contract.Running.{Running}
 use Rattle.numbers.specs.Meaning.{VarUIntSound, VarUIntComplete, VarIntSound, VarIntComplete, IntsSound, IntsComplete}
 use Rattle.framing.specs.Limits.{LimitRange}
 use Rattle.framing.specs.Meaning.{ValuesSound, ValuesComplete, PadsSound, PadsComplete}
@@ -29,19 +30,19 @@ use Rattle.writing.specs.Back.{ScalarsBack, ContainersBack, WrappersBack}
 use Rattle.writing.specs.Judged.{JudgedContainers, JudgedOneByteStructs, JudgedScalars, JudgedBare, JudgedWrappers}
 use Rattle.writing.specs.Judged.{AcceptedContainers, AcceptedScalars, AcceptedBare, AcceptedWrappers}
 use Rattle.runs.specs.Theorems.{Overwriting, PartsAreSets, StillReached}
-use Rattle.runs.specs.Program.{ProgramEnds, ProgramTiling, ProgramOverwriting, ProgramOneBody}
+use Rattle.runs.specs.Program.{HasEntries, ProgramEnds, ProgramTiling, ProgramOverwriting, ProgramOneBody}
 use Rattle.overwriting.specs.TextsStay.{TextsStay}
-use Rattle.overwriting.specs.ProgramTexts.{ProgramTextsStay}
+use Rattle.overwriting.specs.ProgramTexts.{HasLookups, ProgramTextsStay}
 use Rattle.records.specs.Theorems.{FirstBytes}
 use Rattle.batches.specs.Theorems.{RunsOfCalls, RecordsBegin}
 
--- Of the machine's own calls: in every model of the machine, for whichever borrow lends the map.
-module _ (M : Type 1) (𝓤 : Ura M) (𝓛 : Logic 𝓤) (𝓜 : Model 𝓤 𝓛.H) (κs : Lfts 1) where
+-- Of the machine's own calls: in every model of the machine, in every environment that has the functions' code, for whichever borrow lends the map.
+module _ (M : Type 1) (𝓤 : Ura M) (𝓛 : Logic 𝓤) (𝓜 : Model 𝓤 𝓛.H) (𝓡 : Running 𝓤 𝓛.H 𝓜) (entries : HasEntries 𝓡.env) (lookups : HasLookups 𝓡.env) (κs : Lfts 1) where
   -- 1, total: "Whoever calls a public entry, with any bytes and positions of any size, gets a result or a numbered refusal with its position, and the call
   -- ends." Every public function's contract says the first half; this says both of the machine, for the three steps, the annotation step, stepping in and the
   -- scalar reading.
   pub record Total : Type 1 where
-    pub ends : ProgramEnds 𝓛 𝓜 κs
+    pub ends : ProgramEnds 𝓛 𝓜 𝓡.env κs
     -- "A refusal leaves the cursor as given", and "end and refusal repeat at each further call".
     pub kept : RefusalsKeep
     pub repeated : StepsRepeat
@@ -51,11 +52,11 @@ module _ (M : Type 1) (𝓤 : Ura M) (𝓛 : Logic 𝓤) (𝓜 : Model 𝓤 𝓛
   -- 3, whole runs. "For every list of step calls on a stream or a reached body: what is handed out, with the pads before it, tiles the part exactly and in
   -- order." Its markers are E0 01 00 EA, by the change request A.2: "the tiling of a map covers 1.0 markers only".
   pub record WholeRuns : Type 1 where
-    pub tiled : ProgramTiling 𝓛 𝓜 κs
+    pub tiled : ProgramTiling 𝓛 𝓜 𝓡.env κs
     -- "Overwrite one reached body: every run, annotation step, stepping in and scalar reading outside it answers the same", and its own span stays.
-    pub overwritten : ProgramOneBody 𝓛 𝓜 κs
+    pub overwritten : ProgramOneBody 𝓛 𝓜 𝓡.env κs
     -- The calls of the program end, there are runs of every length, and what was overwritten is reached on the second map too: nothing is said of nothing.
-    pub ends : ProgramEnds 𝓛 𝓜 κs
+    pub ends : ProgramEnds 𝓛 𝓜 𝓡.env κs
     pub exist : RunsExist
     pub reached : StillReached
     -- By the change request A.14, of "any set of reached values and pads, none inside another", with "their bodies, and annotation bytes where there are any"
@@ -63,10 +64,10 @@ module _ (M : Type 1) (𝓤 : Ura M) (𝓛 : Logic 𝓤) (𝓜 : Model 𝓤 𝓛
     -- of them" stay, in that they are reached on the second map too; and "An ID's text may move only" after an overwritten table, or what lies in one or may be
     -- one, of the definitions and, for whichever two borrows lend map and system's texts, of the program. The values and pads of any one part are such a set.
     -- The theorem on one body is a case of it.
-    pub many_overwritten : ProgramOverwriting 𝓛 𝓜 κs
+    pub many_overwritten : ProgramOverwriting 𝓛 𝓜 𝓡.env κs
     pub many_reached : Overwriting
     pub texts_stay : TextsStay
-    pub program_texts_stay : (lent : Lfts 2) → ProgramTextsStay 𝓛 𝓜 lent
+    pub program_texts_stay : (lent : Lfts 2) → ProgramTextsStay 𝓛 𝓜 𝓡.env lent
     pub parts_are_sets : PartsAreSets
     -- The exported function of many steps makes such a run.
     pub exported : RunsOfCalls
