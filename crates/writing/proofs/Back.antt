@@ -1,6 +1,6 @@
 -- A value that is written is framed as it was written, wherever it stands.
 -- Assumes nothing.
-use Prim.Native.Nat.{ℕ, ◌+◌, ◌-◌, ◌≤◌}
+use Prim.Native.Nat.{ℕ, ◌+◌, ◌≤◌}
 use native.Mathlib.Omega.{arith}
 use borrow.Author.Tests.{ltb-true, ltb-false, eq-eqb, not-false}
 use mathlib.Core.Path.{◌≡◌, refl, ◌∙◌, sym, subst}
@@ -22,7 +22,7 @@ use Rattle.encoding.specs.Meaning.{StandsAt, Writable}
 use Rattle.encoding.proofs.VarUInts.{uint_written}
 use Rattle.encoding.proofs.Heads.{head_length, typed-back}
 use Rattle.encoding.proofs.Standing.{stands_rest}
-use Rattle.writing.specs.Things.{Thing, int_type, float, significant, float_body, symbol_body, written}
+use Rattle.writing.specs.Things.{Thing, int_type, significant, float_body, symbol_body, written}
 use Rattle.writing.specs.Answers.{has_body, is_container, judged_scalar}
 use Rattle.writing.specs.Theorems.{Sound, Bodied, an_int, a_float, a_symbol, a_scalar, a_container, ValuesBack}
 use Rattle.writing.proofs.Lengths.{not_past}

@@ -1,6 +1,6 @@
 -- A struct's body of one byte is refused: a field ID with nothing after it, or one without a last byte.
 -- Assumes nothing.
-use Prim.Native.Nat.{ℕ, ◌-◌}
+use Prim.Native.Nat.{ℕ}
 use native.Mathlib.Omega.{arith}
 use borrow.Author.Tests.{eq-eqb}
 use mathlib.Core.Path.{◌≡◌, refl, ◌∙◌, sym}

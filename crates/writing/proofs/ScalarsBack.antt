@@ -31,7 +31,7 @@ use Rattle.encoding.specs.Heads.{head_code, head_size, typed_spans}
 use Rattle.encoding.specs.Meaning.{StandsAt}
 use Rattle.encoding.proofs.VarUInts.{uint_written}
 use Rattle.encoding.proofs.Heads.{head_type, head-code, typed_length}
-use Rattle.writing.specs.Things.{Thing, int, null, bool, int_type, float, symbol, container, significant, float_body, symbol_body, null_byte, bool_byte, written}
+use Rattle.writing.specs.Things.{Thing, int_type, significant, float_body, symbol_body, null_byte, bool_byte, written}
 use Rattle.writing.specs.Answers.{has_body, judged_int, judged_scalar, rules_of}
 use Rattle.writing.specs.Answers as ours
 use Rattle.writing.specs.Theorems.{Sound, Bodied, an_int, a_float, a_symbol, a_scalar, a_container, FramedBack}

@@ -1,7 +1,7 @@
 -- What the readings of a value that is written give: the same scalar, the same body, the same annotations and value. The proofs: `scalars-back` of
 -- proofs/ScalarsBack.antt, `containers-back` of it too, `wrappers-back` of proofs/WrappersBack.antt.
 -- Assumes nothing.
-use Rattle.std.specs.Prelude.{ℕ, ◌+◌, ◌-◌, ◌^◌, ◌≤◌, ◌<◌, ◌≡◌, Bool, false, List, length, eqb}
+use Rattle.std.specs.Prelude.{ℕ, ◌+◌, ◌^◌, ◌≤◌, ◌<◌, ◌≡◌, Bool, false, List, length, eqb}
 use Rattle.numbers.specs.Outcome.{gives, pick}
 use Rattle.numbers.specs.Bytes.{part}
 use Rattle.framing.specs.Limits.{out_of_range}

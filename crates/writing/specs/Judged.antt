@@ -1,7 +1,7 @@
 -- What is refused is what A.5 refuses of the thing taken as a map, to the letter: "its number is given, the position counted in the lent bytes then read .. and
--- 0 where the reader names a descriptor still to be written". And what is written A.5 accepts. The proofs: `judged-as-a-map` and `accepted-as-a-map` of
--- proofs/Judging.antt, `one-byte-judged` of proofs/OneByteJudged.antt, `scalars-judged` and `scalars-accepted` of proofs/ScalarsJudged.antt, `bare-judged` and
--- `bare-accepted` of proofs/BareJudged.antt, `wrappers-judged` and `wrappers-accepted` of proofs/WrappersJudged.antt.
+-- 0 where the reader names a descriptor still to be written". And what is written A.5 accepts. The proofs: `judged_as_a_map` and `accepted_as_a_map` of
+-- proofs/Judging.antt, `one_byte_judged` of proofs/OneByteJudged.antt, `scalars_judged` and `scalars_accepted` of proofs/ScalarsJudged.antt, `bare_judged` and
+-- `bare_accepted` of proofs/BareJudged.antt, `wrappers_judged` and `wrappers_accepted` of proofs/WrappersJudged.antt.
 -- Assumes nothing.
 use Rattle.std.specs.Prelude.{ℕ, ◌+◌, ◌-◌, ◌≡◌, Bool, true, false, List, ◌∷◌, length}
 use Rattle.numbers.specs.Outcome.{Outcome, gives, refuses, pick}

@@ -1,10 +1,9 @@
 -- `write_container` meets its contract: 68, 50, 71, what checking the body refuses, 70, then the container is put.
-use borrow.Author.Rules.{rules}
 use Prim.Native.Nat.{ℕ, ◌-◌, ◌≤◌, ◌<◌}
 use native.Mathlib.Omega.{arith}
 use borrow.Author.Tests.{not-false, ltb-true, ltb-false}
 use mathlib.Core.Path.{◌≡◌, refl, ◌∙◌, sym, ap}
-use mathlib.Core.Bool.{Bool, true, false, not, true≢false}
+use mathlib.Core.Bool.{Bool, false, not, true≢false}
 use mathlib.Core.List.{List}
 use lib.ListN.{length}
 use lib.Dec.{ltb}
@@ -51,7 +50,7 @@ returns-then-not-is_container c =
     let a = c.args in
     let x = container a.type_code a.body.now in
     record {
-      answers = c.refused-then-not-is_container.ensures ∙ outside_is a.limit a.deepest x (length a.to.now) (ap not (sym c.is_container.ensures) ∙ c.if-not-is_container.true) ∙ in_limits a.limit a.deepest x (length a.to.now) (sym c.limits_out.ensures ∙ c.if-limits_out.false);
+      answers = c.refused-then-not-is_container.ensures ∙ outside_is a.limit a.deepest x (length a.to.now) (ap not (sym c.is_container.ensures ∙ c.if-not-is_container.true)) ∙ in_limits a.limit a.deepest x (length a.to.now) (sym c.limits_out.ensures ∙ c.if-limits_out.false);
       puts = kept (typed_bytes a.type_code a.body.now) a.to.now c.refused-then-not-is_container.ensures;
     }
 
@@ -60,7 +59,7 @@ returns-then-past_nine c =
     let a = c.args in
     let x = container a.type_code a.body.now in
     record {
-      answers = c.refused-then-past_nine.ensures ∙ long_is a.limit a.deepest x (length a.to.now) (ap not (sym c.is_container.ensures) ∙ c.if-not-is_container.false) (sym c.past_nine.ensures ∙ c.if-past_nine.true) ∙ in_limits a.limit a.deepest x (length a.to.now) (sym c.limits_out.ensures ∙ c.if-limits_out.false);
+      answers = c.refused-then-past_nine.ensures ∙ long_is a.limit a.deepest x (length a.to.now) (ap not (sym c.is_container.ensures ∙ c.if-not-is_container.false)) (sym c.past_nine.ensures ∙ c.if-past_nine.true) ∙ in_limits a.limit a.deepest x (length a.to.now) (sym c.limits_out.ensures ∙ c.if-limits_out.false);
       puts = kept (typed_bytes a.type_code a.body.now) a.to.now c.refused-then-past_nine.ensures;
     }
 
@@ -72,12 +71,12 @@ overflow_sub-deepest c =
 pub narrow-requires : goal.narrow-requires
 narrow-requires c =
     let a = c.args in
-    omega (arith, below a.type_code (ap not (sym c.is_container.ensures) ∙ c.if-not-is_container.false))
+    omega (arith, below a.type_code (ap not (sym c.is_container.ensures ∙ c.if-not-is_container.false)))
 
 pub put_typed-requires : goal.put_typed-requires
 put_typed-requires c =
     let a = c.args in
-    (omega (arith, c.narrow.ensures, below a.type_code (ap not (sym c.is_container.ensures) ∙ c.if-not-is_container.false)), (sym c.past_nine.ensures ∙ c.if-past_nine.false))
+    (omega (arith, c.narrow.ensures, below a.type_code (ap not (sym c.is_container.ensures ∙ c.if-not-is_container.false))), (sym c.past_nine.ensures ∙ c.if-past_nine.false))
 
 pub returns-in-Accepted : goal.returns-in-Accepted
 returns-in-Accepted c =
@@ -85,8 +84,8 @@ returns-in-Accepted c =
     let x = container a.type_code a.body.now in
     let e = c.narrow.ensures in
     let j = checked a.limit a.deepest a.type_code a.body.now (in_limit a.limit a.deepest (sym c.limits_out.ensures ∙ c.if-limits_out.false)) (ap (λ (r : Rules). limited_body a.limit (a.deepest - 1) r a.body.now) (sym c.rules_of.ensures) ∙ sym c.check_body.ensures ∙ ap done_read c.in-Accepted.is) in record {
-      answers = c.put_typed.ensures.0 ∙ ap (λ (k : ℕ). fitted (length a.to.now) (length (typed_bytes k a.body.now)) done) e ∙ fitted_is a.limit a.deepest x (length a.to.now) (ap not (sym c.is_container.ensures) ∙ c.if-not-is_container.false) (sym c.past_nine.ensures ∙ c.if-past_nine.false) j ∙ in_limits a.limit a.deepest x (length a.to.now) (sym c.limits_out.ensures ∙ c.if-limits_out.false);
-      puts = c.put_typed.ensures.1 ∙ ap (λ (k : ℕ). buffer_after (typed_bytes k a.body.now) a.to.now (written_read c.put_typed.result)) e;
+      answers = c.put_typed.ensures.answers ∙ ap (λ (k : ℕ). fitted (length a.to.now) (length (typed_bytes k a.body.now)) done) e ∙ fitted_is a.limit a.deepest x (length a.to.now) (ap not (sym c.is_container.ensures ∙ c.if-not-is_container.false)) (sym c.past_nine.ensures ∙ c.if-past_nine.false) j ∙ in_limits a.limit a.deepest x (length a.to.now) (sym c.limits_out.ensures ∙ c.if-limits_out.false);
+      puts = c.put_typed.ensures.puts ∙ ap (λ (k : ℕ). buffer_after (typed_bytes k a.body.now) a.to.now (written_read c.put_typed.result)) e;
     }
 
 pub returns-in-Refused : goal.returns-in-Refused
@@ -95,6 +94,6 @@ returns-in-Refused c =
     let x = container a.type_code a.body.now in
     let j = checked a.limit a.deepest a.type_code a.body.now (in_limit a.limit a.deepest (sym c.limits_out.ensures ∙ c.if-limits_out.false)) (ap (λ (r : Rules). limited_body a.limit (a.deepest - 1) r a.body.now) (sym c.rules_of.ensures) ∙ sym c.check_body.ensures ∙ ap done_read c.in-Refused.is) in
     record {
-      answers = judged_is a.limit a.deepest x (length a.to.now) (ap not (sym c.is_container.ensures) ∙ c.if-not-is_container.false) (sym c.past_nine.ensures ∙ c.if-past_nine.false) j ∙ in_limits a.limit a.deepest x (length a.to.now) (sym c.limits_out.ensures ∙ c.if-limits_out.false);
+      answers = judged_is a.limit a.deepest x (length a.to.now) (ap not (sym c.is_container.ensures ∙ c.if-not-is_container.false)) (sym c.past_nine.ensures ∙ c.if-past_nine.false) j ∙ in_limits a.limit a.deepest x (length a.to.now) (sym c.limits_out.ensures ∙ c.if-limits_out.false);
       puts = refl;
     }

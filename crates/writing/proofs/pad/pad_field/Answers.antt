@@ -1,11 +1,7 @@
 -- `pad_field` meets its contract: the loop looks for the fewest bytes, from one on. With fewer of them a VarUInt does not tell the length.
-use borrow.Author.Rules.{rules}
-use Prim.Native.Nat.{◌-◌, ◌≤◌}
 use native.Mathlib.Omega.{arith}
-use mathlib.Core.Path.{◌≡◌, ◌∙◌, sym}
-use Rattle.encoding.specs.Fields.{fewest}
-use Rattle.writing.specs.Things.{pad_field}
-use Rattle.writing.proofs.Pads.{length_by, field_none, field_from, field_hit, field_on, field_end}
+use mathlib.Core.Path.{◌∙◌, sym}
+use Rattle.writing.proofs.Pads.{field_none, field_from, field_hit, field_on, field_end}
 use Rattle.writing.proofs.pad.pad_field.Goals as goal
 
 pub returns-then-size-lt-LONG : goal.returns-then-size-lt-LONG

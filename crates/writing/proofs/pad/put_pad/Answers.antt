@@ -1,5 +1,4 @@
 -- `put_pad` meets its contract: descriptor and length field, then zeros, each stored behind the other.
-use borrow.Author.Rules.{rules}
 use Prim.Native.Nat.{ℕ, ◌+◌, ◌-◌}
 use native.Mathlib.Omega.{arith}
 use mathlib.Core.Path.{◌≡◌, ◌∙◌, ap}

@@ -1,9 +1,7 @@
 -- `put_zeros` meets its contract: with what is left stored from here, the buffer is what it is to be.
-use Prim.Native.Nat.{◌-◌, ◌≤◌}
 use native.Mathlib.Omega.{arith}
-use mathlib.Core.Path.{◌≡◌, refl, ◌∙◌}
-use lib.ListN.{length, replicate, length-set}
-use lib.Seq.{sets}
+use mathlib.Core.Path.{refl, ◌∙◌}
+use lib.ListN.{length-set}
 use Rattle.writing.proofs.Pads.{zeros_on, zeros_end}
 use Rattle.writing.proofs.pad.put_zeros.Goals as goal
 

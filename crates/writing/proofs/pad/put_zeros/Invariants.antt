@@ -1,10 +1,8 @@
 -- `put_zeros` meets its contract: with what is left stored from here, the buffer is what it is to be.
 use Prim.Native.Nat.{◌-◌, ◌≤◌}
-use native.Mathlib.Omega.{arith}
-use mathlib.Core.Path.{◌≡◌, refl, ◌∙◌}
-use lib.ListN.{length, replicate, length-set}
+use mathlib.Core.Path.{◌≡◌}
+use lib.ListN.{length, replicate}
 use lib.Seq.{sets}
-use Rattle.writing.proofs.Pads.{zeros_on, zeros_end}
 use Rattle.writing.proofs.pad.put_zeros.Given as goal
 
 abbrev pub invariant-loop-i : goal.invariant-loop-i

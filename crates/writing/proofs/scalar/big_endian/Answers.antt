@@ -1,5 +1,4 @@
 -- `big_endian` meets its contract: each byte is the definition's, its power of 256 computed.
-use borrow.Author.Rules.{rules}
 use Prim.Native.Nat.{ℕ, ◌/◌, ◌%◌}
 use native.Mathlib.Omega.{arith}
 use mathlib.Core.Path.{◌≡◌}

@@ -1,5 +1,4 @@
 -- `bool_byte` meets its contract: by its two cases.
-use borrow.Author.Rules.{rules}
 use Rattle.writing.specs.Things.{bool_byte}
 use Rattle.writing.proofs.scalar.bool_byte.Goals as goal
 

@@ -1,10 +1,8 @@
 -- `judge_scalar` meets its contract: 31, and then what is read of the body.
-use borrow.Author.Rules.{rules}
 use Prim.Native.Nat.{ℕ, ◌*◌, ◌≤◌}
 use native.Mathlib.Omega.{arith}
 use borrow.Author.Tests.{lt-ltb, le-ltb, eq-eqb, ne_eqb}
 use mathlib.Core.Path.{◌≡◌, refl, ◌∙◌, sym, ap}
-use mathlib.Core.Logic.{⊎_elim}
 use mathlib.Core.Bool.{Bool, true, false}
 use mathlib.Core.List.{List}
 use lib.ListN.{length}
@@ -12,12 +10,12 @@ use lib.Dec.{eqb}
 use Rattle.numbers.specs.Outcome.{Outcome, and_then, pick}
 use Rattle.numbers.proofs.Outcomes.{inside}
 use Rattle.framing.specs.Answers.{short_timestamp}
-use Rattle.framing.specs.Spans.{Spans}
 use Rattle.framing.specs.ShortValue.{bare_spans}
 use Rattle.values.specs.Scalars.{Scalar, scalar_of, scalar_in}
 use Rattle.checking.specs.Reading.{read_body, read_content}
 use Rattle.writing.specs.Answers.{judged_scalar}
 use Rattle.writing.proofs.scalar.judge_scalar.Goals as goal
+use Rattle.writing.proofs.scalar.judge_scalar.Goals.{then-type_code-eq-TIMESTAMP+else-body-lt-LEAST_TIMESTAMP, else-type_code-eq-TIMESTAMP}
 
 placed : (body : List ℕ) (byte : ℕ) → scalar_in body (bare_spans byte 0 0 (length body)) ≡ scalar_of body (bare_spans byte 0 0 (length body))
 unfolding scalar_in
@@ -47,7 +45,10 @@ returns-then-body-lt-LEAST_TIMESTAMP c = rw (eq-eqb _ _ c.if-type_code-eq-TIMEST
 pub returns : goal.returns
 returns c =
     let a = c.args in
-    let v : Spans = bare_spans (a.type_code * 16) 0 0 (length a.body.now) in
+    let long : short_timestamp a.type_code 0 (length a.body.now) ≡ false = elim c.if-type_code-eq-TIMESTAMP.branch [
+      | then-type_code-eq-TIMESTAMP+else-body-lt-LEAST_TIMESTAMP w ↦ short_not a.type_code (length a.body.now) w.if-body-lt-LEAST_TIMESTAMP.false
+      | else-type_code-eq-TIMESTAMP w ↦ other_type a.type_code (length a.body.now) w.if-type_code-eq-TIMESTAMP.false
+    ] in
     c.read_body.ensures
     ∙ ap (λ (o : Outcome Scalar). and_then o (read_body a.body.now 0)) (c.read_placed.ensures ∙ ap (scalar_in a.body.now) c.bare_value-value.ensures ∙ placed a.body.now (a.type_code * 16))
-    ∙ sym (judged_is a.type_code a.body.now (⊎_elim (λ w. short_not a.type_code (length a.body.now) (omega (arith, w.1))) (λ w. other_type a.type_code (length a.body.now) w.left) c.if-type_code-eq-TIMESTAMP.branch))
+    ∙ sym (judged_is a.type_code a.body.now long)

@@ -1,5 +1,4 @@
 -- `null_byte` meets its contract: a computed byte.
-use borrow.Author.Rules.{rules}
 use borrow.Author.Tests.{eq-eqb, ne_eqb}
 use Rattle.writing.specs.Things.{null_byte}
 use Rattle.writing.proofs.scalar.null_byte.Goals as goal

@@ -1,5 +1,4 @@
 -- `write_bool` meets its contract: its byte is put.
-use borrow.Author.Rules.{rules}
 use Prim.Native.Nat.{ℕ}
 use mathlib.Core.Path.{refl, ◌∙◌, ap}
 use mathlib.Core.List.{[], ◌∷◌}
@@ -13,6 +12,6 @@ use Rattle.writing.proofs.scalar.write_bool.Goals as goal
 pub returns : goal.returns
 returns c =
     let a = c.args in record {
-      answers = (λ limit deepest. c.put_one.ensures.0 ∙ fitted_is limit deepest (bool a.value) (length a.to.now) refl refl refl);
-      puts = c.put_one.ensures.1 ∙ ap (λ (b : ℕ). buffer_after (b ∷ []) a.to.now (written_read c.put_one.result)) c.bool_byte.ensures;
+      answers = (λ limit deepest. c.put_one.ensures.answers ∙ fitted_is limit deepest (bool a.value) (length a.to.now) refl refl refl);
+      puts = c.put_one.ensures.puts ∙ ap (λ (b : ℕ). buffer_after (b ∷ []) a.to.now (written_read c.put_one.result)) c.bool_byte.ensures;
     }

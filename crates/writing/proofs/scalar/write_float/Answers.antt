@@ -1,6 +1,5 @@
 -- `write_float` meets its contract: no bytes for positive zero, else eight.
-use borrow.Author.Rules.{rules}
-use Prim.Native.Nat.{ℕ, ◌-◌}
+use Prim.Native.Nat.{ℕ}
 use native.Mathlib.Omega.{arith}
 use borrow.Author.Tests.{eq-eqb, ne_eqb}
 use mathlib.Core.Path.{◌≡◌, refl, ◌∙◌, sym, ap}
@@ -32,8 +31,8 @@ pub returns-then-bits-eq0 : goal.returns-then-bits-eq0
 returns-then-bits-eq0 c =
     let a = c.args in
     let e : float_body a.bits ≡ [] = zero_body a.bits c.if-bits-eq0.true in record {
-      answers = (λ limit deepest. c.put_typed.ensures.0 ∙ ap (λ (l : List ℕ). fitted (length a.to.now) (length (typed_bytes 4 l)) done) (sym e) ∙ fitted_is limit deepest (float a.bits) (length a.to.now) refl refl refl);
-      puts = c.put_typed.ensures.1 ∙ ap (λ (l : List ℕ). buffer_after (typed_bytes 4 l) a.to.now (written_read c.put_typed.result)) (sym e);
+      answers = (λ limit deepest. c.put_typed.ensures.answers ∙ ap (λ (l : List ℕ). fitted (length a.to.now) (length (typed_bytes 4 l)) done) (sym e) ∙ fitted_is limit deepest (float a.bits) (length a.to.now) refl refl refl);
+      puts = c.put_typed.ensures.puts ∙ ap (λ (l : List ℕ). buffer_after (typed_bytes 4 l) a.to.now (written_read c.put_typed.result)) (sym e);
     }
 
 pub put_typed-requires-2 : goal.put_typed-requires-2
@@ -44,6 +43,6 @@ pub returns : goal.returns
 returns c =
     let a = c.args in
     let e : c.big_endian-bytes.result ≡ float_body a.bits = c.big_endian-bytes.ensures ∙ sym (other_body a.bits c.if-bits-eq0.false) in record {
-      answers = (λ limit deepest. c.put_typed-2.ensures.0 ∙ ap (λ (l : List ℕ). fitted (length a.to.now) (length (typed_bytes 4 l)) done) e ∙ fitted_is limit deepest (float a.bits) (length a.to.now) refl refl refl);
-      puts = c.put_typed-2.ensures.1 ∙ ap (λ (l : List ℕ). buffer_after (typed_bytes 4 l) a.to.now (written_read c.put_typed-2.result)) e;
+      answers = (λ limit deepest. c.put_typed-2.ensures.answers ∙ ap (λ (l : List ℕ). fitted (length a.to.now) (length (typed_bytes 4 l)) done) e ∙ fitted_is limit deepest (float a.bits) (length a.to.now) refl refl refl);
+      puts = c.put_typed-2.ensures.puts ∙ ap (λ (l : List ℕ). buffer_after (typed_bytes 4 l) a.to.now (written_read c.put_typed-2.result)) e;
     }

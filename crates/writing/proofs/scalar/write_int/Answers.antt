@@ -1,6 +1,6 @@
 -- `write_int` meets its contract: 71, 34, and the magnitude without leading zero bytes.
 use borrow.Author.Rules.{rules}
-use Prim.Native.Nat.{ℕ, ◌-◌, ◌≤◌}
+use Prim.Native.Nat.{ℕ, ◌≤◌}
 use native.Mathlib.Omega.{arith}
 use borrow.Author.Tests.{eq-eqb, ne_eqb}
 use mathlib.Core.Path.{◌≡◌, refl, ◌∙◌, sym, ap}
@@ -72,8 +72,8 @@ returns-then-negative c =
     let e = significant_part a.magnitude.now c.significant-start.result c.significant-start.ensures in
     let m : int_type a.negative ≡ 3 = negative_type a.negative c.if-negative.true in
     let t : past_nine (length (significant a.magnitude.now)) ≡ false = ap (λ (l : List ℕ). past_nine (length l)) (sym e) ∙ sym c.past_nine.ensures ∙ c.if-past_nine.false in record {
-      answers = (λ limit deepest. c.put_typed.ensures.0 ∙ ap (λ (l : List ℕ). fitted (length a.to.now) (length (typed_bytes 3 l)) done) e ∙ ap (λ (k : ℕ). fitted (length a.to.now) (length (typed_bytes k (significant a.magnitude.now))) done) (sym m) ∙ fitted_is limit deepest (int a.negative a.magnitude.now) (length a.to.now) refl t (some a.negative a.magnitude.now (λ z. c.if-body-eq0.false (ap length e ∙ z))));
-      puts = c.put_typed.ensures.1 ∙ ap (λ (l : List ℕ). buffer_after (typed_bytes 3 l) a.to.now (written_read c.put_typed.result)) e ∙ ap (λ (k : ℕ). buffer_after (typed_bytes k (significant a.magnitude.now)) a.to.now (written_read c.put_typed.result)) (sym m);
+      answers = (λ limit deepest. c.put_typed.ensures.answers ∙ ap (λ (l : List ℕ). fitted (length a.to.now) (length (typed_bytes 3 l)) done) e ∙ ap (λ (k : ℕ). fitted (length a.to.now) (length (typed_bytes k (significant a.magnitude.now))) done) (sym m) ∙ fitted_is limit deepest (int a.negative a.magnitude.now) (length a.to.now) refl t (some a.negative a.magnitude.now (λ z. c.if-body-eq0.false (ap length e ∙ z))));
+      puts = c.put_typed.ensures.puts ∙ ap (λ (l : List ℕ). buffer_after (typed_bytes 3 l) a.to.now (written_read c.put_typed.result)) e ∙ ap (λ (k : ℕ). buffer_after (typed_bytes k (significant a.magnitude.now)) a.to.now (written_read c.put_typed.result)) (sym m);
     }
 
 pub put_typed-requires-2 : goal.put_typed-requires-2
@@ -86,6 +86,6 @@ returns c =
     let e = significant_part a.magnitude.now c.significant-start.result c.significant-start.ensures in
     let m : int_type a.negative ≡ 2 = positive_type a.negative c.if-negative.false in
     let t : past_nine (length (significant a.magnitude.now)) ≡ false = ap (λ (l : List ℕ). past_nine (length l)) (sym e) ∙ sym c.past_nine.ensures ∙ c.if-past_nine.false in record {
-      answers = (λ limit deepest. c.put_typed-2.ensures.0 ∙ ap (λ (l : List ℕ). fitted (length a.to.now) (length (typed_bytes 2 l)) done) e ∙ ap (λ (k : ℕ). fitted (length a.to.now) (length (typed_bytes k (significant a.magnitude.now))) done) (sym m) ∙ fitted_is limit deepest (int a.negative a.magnitude.now) (length a.to.now) refl t (positive a.negative a.magnitude.now c.if-negative.false));
-      puts = c.put_typed-2.ensures.1 ∙ ap (λ (l : List ℕ). buffer_after (typed_bytes 2 l) a.to.now (written_read c.put_typed-2.result)) e ∙ ap (λ (k : ℕ). buffer_after (typed_bytes k (significant a.magnitude.now)) a.to.now (written_read c.put_typed-2.result)) (sym m);
+      answers = (λ limit deepest. c.put_typed-2.ensures.answers ∙ ap (λ (l : List ℕ). fitted (length a.to.now) (length (typed_bytes 2 l)) done) e ∙ ap (λ (k : ℕ). fitted (length a.to.now) (length (typed_bytes k (significant a.magnitude.now))) done) (sym m) ∙ fitted_is limit deepest (int a.negative a.magnitude.now) (length a.to.now) refl t (positive a.negative a.magnitude.now c.if-negative.false));
+      puts = c.put_typed-2.ensures.puts ∙ ap (λ (l : List ℕ). buffer_after (typed_bytes 2 l) a.to.now (written_read c.put_typed-2.result)) e ∙ ap (λ (k : ℕ). buffer_after (typed_bytes k (significant a.magnitude.now)) a.to.now (written_read c.put_typed-2.result)) (sym m);
     }

@@ -1,5 +1,4 @@
 -- `write_null` meets its contract: 50 for a type that is none, else its byte is put.
-use borrow.Author.Rules.{rules}
 use Prim.Native.Nat.{ℕ}
 use native.Mathlib.Omega.{arith}
 use borrow.Author.Tests.{lt-ltb, le-ltb}
@@ -26,6 +25,6 @@ null_byte-requires c = omega (arith, c.if-type_code-gt-LAST_TYPE.false)
 pub returns : goal.returns
 returns c =
     let a = c.args in record {
-      answers = (λ limit deepest. c.put_one.ensures.0 ∙ fitted_is limit deepest (null a.type_code) (length a.to.now) (le-ltb 13 a.type_code c.if-type_code-gt-LAST_TYPE.false) refl refl);
-      puts = c.put_one.ensures.1 ∙ ap (λ (b : ℕ). buffer_after (b ∷ []) a.to.now (written_read c.put_one.result)) c.null_byte.ensures;
+      answers = (λ limit deepest. c.put_one.ensures.answers ∙ fitted_is limit deepest (null a.type_code) (length a.to.now) (le-ltb 13 a.type_code c.if-type_code-gt-LAST_TYPE.false) refl refl);
+      puts = c.put_one.ensures.puts ∙ ap (λ (b : ℕ). buffer_after (b ∷ []) a.to.now (written_read c.put_one.result)) c.null_byte.ensures;
     }

@@ -1,10 +1,9 @@
 -- `write_scalar` meets its contract: 50, 71, what reading the body refuses, 70, then the value is put.
-use borrow.Author.Rules.{rules}
-use Prim.Native.Nat.{ℕ, ◌-◌, ◌<◌}
+use Prim.Native.Nat.{ℕ, ◌<◌}
 use native.Mathlib.Omega.{arith}
 use borrow.Author.Tests.{not-false, ltb-true}
 use mathlib.Core.Path.{◌≡◌, refl, ◌∙◌, sym, ap}
-use mathlib.Core.Bool.{Bool, true, false, not, true≢false}
+use mathlib.Core.Bool.{Bool, false, not, true≢false}
 use lib.ListN.{length}
 use lib.Dec.{ltb, eqb}
 use Rattle.numbers.proofs.Outcomes.{by_test}
@@ -27,7 +26,7 @@ pub returns-then-not-has_body : goal.returns-then-not-has_body
 returns-then-not-has_body c =
     let a = c.args in
     record {
-      answers = (λ limit deepest. c.refused.ensures ∙ outside_is limit deepest (scalar a.type_code a.body.now) (length a.to.now) (ap not (sym c.has_body.ensures) ∙ c.if-not-has_body.true));
+      answers = (λ limit deepest. c.refused.ensures ∙ outside_is limit deepest (scalar a.type_code a.body.now) (length a.to.now) (ap not (sym c.has_body.ensures ∙ c.if-not-has_body.true)));
       puts = kept (typed_bytes a.type_code a.body.now) a.to.now c.refused.ensures;
     }
 
@@ -35,32 +34,32 @@ pub returns-then-past_nine : goal.returns-then-past_nine
 returns-then-past_nine c =
     let a = c.args in
     record {
-      answers = (λ limit deepest. c.refused-then-past_nine.ensures ∙ long_is limit deepest (scalar a.type_code a.body.now) (length a.to.now) (ap not (sym c.has_body.ensures) ∙ c.if-not-has_body.false) (sym c.past_nine.ensures ∙ c.if-past_nine.true));
+      answers = (λ limit deepest. c.refused-then-past_nine.ensures ∙ long_is limit deepest (scalar a.type_code a.body.now) (length a.to.now) (ap not (sym c.has_body.ensures ∙ c.if-not-has_body.false)) (sym c.past_nine.ensures ∙ c.if-past_nine.true));
       puts = kept (typed_bytes a.type_code a.body.now) a.to.now c.refused-then-past_nine.ensures;
     }
 
 pub narrow-code-requires : goal.narrow-code-requires
 narrow-code-requires c =
     let a = c.args in
-    omega (arith, below a.type_code (ap not (sym c.has_body.ensures) ∙ c.if-not-has_body.false))
+    omega (arith, below a.type_code (ap not (sym c.has_body.ensures ∙ c.if-not-has_body.false)))
 
 pub judge_scalar-requires : goal.judge_scalar-requires
 judge_scalar-requires c =
     let a = c.args in
-    omega (arith, c.narrow-code.ensures, below a.type_code (ap not (sym c.has_body.ensures) ∙ c.if-not-has_body.false))
+    omega (arith, c.narrow-code.ensures, below a.type_code (ap not (sym c.has_body.ensures ∙ c.if-not-has_body.false)))
 
 pub put_typed-requires : goal.put_typed-requires
 put_typed-requires c =
     let a = c.args in
-    (omega (arith, c.narrow-code.ensures, below a.type_code (ap not (sym c.has_body.ensures) ∙ c.if-not-has_body.false)), (sym c.past_nine.ensures ∙ c.if-past_nine.false))
+    (omega (arith, c.narrow-code.ensures, below a.type_code (ap not (sym c.has_body.ensures ∙ c.if-not-has_body.false))), (sym c.past_nine.ensures ∙ c.if-past_nine.false))
 
 pub returns-in-Accepted : goal.returns-in-Accepted
 returns-in-Accepted c =
     let a = c.args in
     let e = c.narrow-code.ensures in
     let j = ap (λ (k : ℕ). judged_scalar k a.body.now) (sym e) ∙ sym c.judge_scalar.ensures ∙ ap done_read c.in-Accepted.is in record {
-      answers = (λ limit deepest. c.put_typed.ensures.0 ∙ ap (λ (k : ℕ). fitted (length a.to.now) (length (typed_bytes k a.body.now)) done) e ∙ fitted_is limit deepest (scalar a.type_code a.body.now) (length a.to.now) (ap not (sym c.has_body.ensures) ∙ c.if-not-has_body.false) (sym c.past_nine.ensures ∙ c.if-past_nine.false) j);
-      puts = c.put_typed.ensures.1 ∙ ap (λ (k : ℕ). buffer_after (typed_bytes k a.body.now) a.to.now (written_read c.put_typed.result)) e;
+      answers = (λ limit deepest. c.put_typed.ensures.answers ∙ ap (λ (k : ℕ). fitted (length a.to.now) (length (typed_bytes k a.body.now)) done) e ∙ fitted_is limit deepest (scalar a.type_code a.body.now) (length a.to.now) (ap not (sym c.has_body.ensures ∙ c.if-not-has_body.false)) (sym c.past_nine.ensures ∙ c.if-past_nine.false) j);
+      puts = c.put_typed.ensures.puts ∙ ap (λ (k : ℕ). buffer_after (typed_bytes k a.body.now) a.to.now (written_read c.put_typed.result)) e;
     }
 
 pub returns-in-Refused : goal.returns-in-Refused
@@ -69,6 +68,6 @@ returns-in-Refused c =
     let e = c.narrow-code.ensures in
     let j = ap (λ (k : ℕ). judged_scalar k a.body.now) (sym e) ∙ sym c.judge_scalar.ensures ∙ ap done_read c.in-Refused.is in
     record {
-      answers = (λ limit deepest. judged_is limit deepest (scalar a.type_code a.body.now) (length a.to.now) (ap not (sym c.has_body.ensures) ∙ c.if-not-has_body.false) (sym c.past_nine.ensures ∙ c.if-past_nine.false) j);
+      answers = (λ limit deepest. judged_is limit deepest (scalar a.type_code a.body.now) (length a.to.now) (ap not (sym c.has_body.ensures ∙ c.if-not-has_body.false)) (sym c.past_nine.ensures ∙ c.if-past_nine.false) j);
       puts = refl;
     }

@@ -49,6 +49,6 @@ returns c =
     let b : List ℕ = c.big_endian-bytes.result in
     let n : length b ≡ 8 = eight a.id b c.big_endian-bytes.ensures in
     let e : take (8 - c.significant-start.result) (drop c.significant-start.result b) ≡ symbol_body a.id = body a.id b c.significant-start.result n c.big_endian-bytes.ensures c.significant-start.ensures in record {
-      answers = (λ limit deepest. c.put_typed.ensures.0 ∙ ap (λ (l : List ℕ). fitted (length a.to.now) (length (typed_bytes 7 l)) done) e ∙ fitted_is limit deepest (symbol a.id) (length a.to.now) refl refl refl);
-      puts = c.put_typed.ensures.1 ∙ ap (λ (l : List ℕ). buffer_after (typed_bytes 7 l) a.to.now (written_read c.put_typed.result)) e;
+      answers = (λ limit deepest. c.put_typed.ensures.answers ∙ ap (λ (l : List ℕ). fitted (length a.to.now) (length (typed_bytes 7 l)) done) e ∙ fitted_is limit deepest (symbol a.id) (length a.to.now) refl refl refl);
+      puts = c.put_typed.ensures.puts ∙ ap (λ (l : List ℕ). buffer_after (typed_bytes 7 l) a.to.now (written_read c.put_typed.result)) e;
     }

@@ -1,6 +1,4 @@
 -- `judge_parts` meets its contract: 29, the annotation IDs, then the value.
-use borrow.Author.Rules.{rules}
-use Prim.Native.Nat.{◌-◌}
 use mathlib.Core.Path.{◌≡◌, ◌∙◌, sym, ap}
 use lib.ListN.{length}
 use Rattle.numbers.specs.Outcome.{Outcome, gives, and_then}

@@ -1,6 +1,4 @@
 -- `judge_wrapper` meets its contract: 23, 25, 26, the value where it stands, then its parts.
-use borrow.Author.Rules.{rules}
-use Prim.Native.Nat.{◌-◌}
 use native.Mathlib.Omega.{arith}
 use mathlib.Core.Path.{refl, ◌∙◌}
 use Rattle.numbers.proofs.Outcomes.{then_by}

@@ -1,6 +1,4 @@
 -- `lent_value` meets its contract: 27 and 28 by the first byte's kind, else it is the value's reading.
-use borrow.Author.Rules.{rules}
-use Prim.Native.Nat.{◌-◌}
 use mathlib.Core.Path.{◌∙◌, ap}
 use Rattle.numbers.specs.declared.type_descriptor.TypeDescriptor.{TypeDescriptor}
 use Rattle.writing.specs.Private.Inner.{inner_fault}

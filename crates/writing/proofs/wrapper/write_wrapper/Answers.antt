@@ -1,6 +1,5 @@
 -- `write_wrapper` meets its contract: 68, 71, what the reader refuses, 70, then the wrapper is put.
-use borrow.Author.Rules.{rules}
-use Prim.Native.Nat.{ℕ, ◌+◌, ◌-◌}
+use Prim.Native.Nat.{ℕ, ◌+◌}
 use mathlib.Core.Path.{◌≡◌, refl, ◌∙◌, sym, ap}
 use mathlib.Core.Bool.{Bool}
 use mathlib.Core.List.{List}
@@ -55,8 +54,8 @@ returns-in-Accepted c =
     let t = past_is a.annotations.now a.value.now (sym c.wrapped_past_nine.ensures ∙ c.if-wrapped_past_nine.false) in
     let j : judged_wrapper a.limit a.deepest a.annotations.now a.value.now ≡ gives done = sym c.judge_wrapper.ensures ∙ ap done_read c.in-Accepted.is in
     record {
-      answers = c.put_wrapper.ensures.0 ∙ fitted_is a.limit a.deepest x (length a.to.now) refl t j ∙ in_limits a.limit a.deepest x (length a.to.now) (sym c.limits_out.ensures ∙ c.if-limits_out.false);
-      puts = c.put_wrapper.ensures.1;
+      answers = c.put_wrapper.ensures.answers ∙ fitted_is a.limit a.deepest x (length a.to.now) refl t j ∙ in_limits a.limit a.deepest x (length a.to.now) (sym c.limits_out.ensures ∙ c.if-limits_out.false);
+      puts = c.put_wrapper.ensures.puts;
     }
 
 pub returns-in-Refused : goal.returns-in-Refused

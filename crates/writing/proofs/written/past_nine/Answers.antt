@@ -2,7 +2,6 @@
 use mathlib.Core.Path.{ap}
 use Prim.Native.Nat.{ℕ}
 use lib.Dec.{ltb}
-use borrow.Author.Rules.{rules}
 use Rattle.writing.specs.Answers.{past_nine}
 use Prim.Native.Nat.{ℕ}
 use mathlib.Core.Path.{ap}
