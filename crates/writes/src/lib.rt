@@ -1,2 +1,4 @@
 // The functions that other languages call to write values.
+#![tactic(auto)]
+
 pub mod exports;
