@@ -1,4 +1,4 @@
--- What holds of lists of exported steps. The proofs: `runs-of-calls` of proofs/RunsOfCalls.antt, `records-begin` of proofs/RecordsBegin.antt.
+-- What holds of lists of exported steps. The proofs: `runs_of_calls` of proofs/RunsOfCalls.antt, `records-begin` of proofs/RecordsBegin.antt.
 -- Assumes nothing.
 use Rattle.std.specs.Prelude.{ℕ, ◌*◌, ◌≤◌, ◌≡◌, List, ◌∷◌, ◌++◌, map, length, take, drop}
 use Rattle.numbers.specs.Outcome.{Outcome}

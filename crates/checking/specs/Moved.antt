@@ -1,5 +1,5 @@
 -- What is read of a value wherever it stands: whether its annotations and its scalar are read without a refusal depends on their bytes alone. The proofs:
--- `ids-alike`, `contents-alike` and `items_alike` of proofs/Moving.antt.
+-- `ids_alike`, `contents_alike` and `items_alike` of proofs/Moving.antt.
 -- Assumes nothing.
 use Rattle.std.specs.Prelude.{ℕ, ◌+◌, ◌-◌, ◌≤◌, ◌<◌, ◌≡◌, List, length, get_or}
 use Rattle.numbers.specs.Outcome.{Outcome, gives, refuses}

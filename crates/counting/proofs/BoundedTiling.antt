@@ -1,23 +1,23 @@
 -- The answers of a run of bounded steps tile its part: each call adds the pads that it passed and its item in front of what the later ones tile.
 -- Assumes nothing.
-use Prim.Native.Nat.{ℕ, zero, suc, ◌≤◌, ◌<◌}
+use Prim.Native.Nat.{ℕ, zero, suc, ◌≤◌}
 use native.Mathlib.Omega.{arith}
 use borrow.Author.Tests.{ltb-false}
 use mathlib.Core.Path.{◌≡◌, refl, ◌∙◌, sym, ap, subst}
 use mathlib.Core.Bool.{Bool, true, false, true≢false}
-use mathlib.Core.Logic.{◌⊎◌, inl, inr, ⊎_elim}
+use mathlib.Core.Logic.{⊎_elim}
 use mathlib.Core.List.Memᴰ
 use mathlib.Core.List.{List, [], ◌∷◌, Memᴰ}
 use lib.ListN.{length, take}
 use lib.Dec.{ltb, eqb}
-use Rattle.numbers.specs.Outcome.{Outcome, gives, refuses, pick, outside_of}
+use Rattle.numbers.specs.Outcome.{Outcome, gives, refuses, outside_of}
 use Rattle.numbers.proofs.Outcomes.{by_test, inside_order, inside_end}
 use Rattle.framing.specs.Limits.{out_of_range}
 use Rattle.stepping.specs.Items.{Item, finish, Pad}
 use Rattle.stepping.specs.Answers.{found, after, step_of}
 use Rattle.stepping.specs.Format.{ItemAt, marker-at, value_in_stream, value_in_sequence, field-at}
 use Rattle.stepping.specs.Meaning.{Skips, arrived, passed, Stands, the_end, the_item, refused_there, no_part, no_limit}
-use Rattle.stepping.specs.Runs.{cursor, Piece, handed, skipped_all, of_call, Tiles, empty, pad, item}
+use Rattle.stepping.specs.Runs.{Piece, handed, skipped_all, of_call, Tiles, empty, pad, item}
 use Rattle.stepping.specs.declared.cursor.Cursor.{Cursor}
 use Rattle.stepping.specs.declared.cursor.Rules.{Rules}
 use Rattle.stepping.proofs.Soundness.{steps-sound}

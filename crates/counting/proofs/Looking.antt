@@ -1,6 +1,6 @@
 -- A bounded step looks at the tile at each of the pads that it passes, and at one place more: what stands elsewhere does not matter to it.
 -- Assumes nothing.
-use Prim.Native.Nat.{ℕ, zero, suc, ◌+◌, ◌-◌, ◌≤◌, ◌<◌}
+use Prim.Native.Nat.{ℕ, zero, suc, ◌+◌, ◌≤◌, ◌<◌}
 use native.Mathlib.Omega.{arith}
 use borrow.Author.Tests.{ltb-true, ltb-false}
 use mathlib.Core.Path.{◌≡◌, refl, ◌∙◌, sym, ap, subst}
@@ -15,12 +15,11 @@ use Rattle.stepping.specs.Items.{Item}
 use Rattle.stepping.specs.Answers.{Tile, skip, hand, tile_at}
 use Rattle.stepping.specs.Runs.{cursor}
 use Rattle.stepping.specs.Private.Tiles.{handed}
-use Rattle.stepping.specs.declared.cursor.Cursor.{Cursor}
 use Rattle.stepping.specs.declared.cursor.Rules.{Rules}
 use Rattle.stepping.proofs.Places.{pad_ends}
 use Rattle.counting.specs.Counted.{unbegun}
-use Rattle.counting.specs.Bounded.{Bounded, reached, more, pad_next, bounded_in, bounded}
-use Rattle.counting.specs.BoundedRuns.{SameThere, Looks}
+use Rattle.counting.specs.Bounded.{Bounded, reached, pad_next, bounded_in, bounded}
+use Rattle.counting.specs.BoundedRuns.{SameThere}
 use Rattle.counting.specs.Theorems.{WorkBounded}
 use Rattle.counting.proofs.Bounding.{add_pads, next_pad, bound_pad, bound_more, bound_stop, bound_end, bounded_unranged, bounded_outside}
 

@@ -4,16 +4,15 @@ use Prim.Native.Nat.{ℕ, ◌+◌, ◌-◌, ◌≤◌}
 use native.Mathlib.Omega.{arith}
 use borrow.Author.Tests.{lt-ltb, le-ltb}
 use mathlib.Core.Path.{◌≡◌, ◌∙◌, sym, ap, subst}
-use mathlib.Core.Logic.{◌⊎◌, inl, inr}
+use mathlib.Core.Logic.{inl, inr}
 use mathlib.Core.List.{List}
 use lib.ListN.{length}
 use lib.Dec.{ltb}
-use Rattle.numbers.specs.Outcome.{gives, refuses, pick}
+use Rattle.numbers.specs.Outcome.{gives, pick}
 use Rattle.numbers.proofs.Outcomes.{by_case, inside_order, inside_end}
 use Rattle.framing.specs.Limits.{out_of_range}
 use Rattle.stepping.specs.Answers.{Found, found}
 use Rattle.stepping.specs.Meaning.{Skips, arrived, passed}
-use Rattle.stepping.specs.declared.cursor.Cursor.{Cursor}
 use Rattle.stepping.specs.declared.cursor.Rules.TheVariants.{Fields}
 use Rattle.stepping.proofs.PadSkipping.{Skipping, at-end, at_pad, at_item, at_refusal, skipping, of_skipping}
 use Rattle.stepping.proofs.Spans.{pad-at}

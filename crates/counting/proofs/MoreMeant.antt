@@ -4,22 +4,20 @@ use Prim.Native.Nat.{ℕ, zero, suc, ◌+◌, ◌≤◌, ◌<◌}
 use native.Mathlib.Omega.{arith}
 use borrow.Author.Tests.{ltb-true, ne_eqb}
 use mathlib.Core.Path.{◌≡◌, refl, ◌∙◌, sym, ap, subst}
-use mathlib.Core.Bool.{Bool, true, false, true≢false}
+use mathlib.Core.Bool.{Bool, true, true≢false}
 use mathlib.Core.Logic.{◌⊎◌, inl, inr}
 use mathlib.Core.List.{List, [], ◌∷◌}
 use lib.ListN.{length, get_or, take}
 use lib.Dec.{ltb, eqb}
-use Rattle.numbers.specs.Format.{NumberAt}
-use Rattle.numbers.specs.Outcome.{Outcome, gives, refuses, outside_of}
+use Rattle.numbers.specs.Outcome.{Outcome, gives, refuses}
 use Rattle.numbers.specs.Answers.{Unsigned, unsigned, var_uint}
-use Rattle.numbers.proofs.Outcomes.{by_case, by_test, inside, inside_order, inside_end, then_gives, refuse_gives}
-use Rattle.numbers.proofs.Meaning.{ReadAt, var_uint_at, var-uint-complete}
+use Rattle.numbers.proofs.Outcomes.{by_case, by_test, inside, inside_end, then_gives, refuse_gives}
+use Rattle.numbers.proofs.Meaning.{var_uint_at, var-uint-complete}
 use Rattle.stepping.specs.Items.{Pad}
-use Rattle.stepping.specs.Answers.{skip, tile_at, found}
-use Rattle.stepping.specs.Format.{NameBytes, in_stream, in_sequence, in_fields, PadAt}
+use Rattle.stepping.specs.Answers.{found}
+use Rattle.stepping.specs.Format.{NameBytes, in_stream, in_sequence, in_fields}
 use Rattle.stepping.specs.Meaning.{Skips, arrived, passed}
 use Rattle.stepping.specs.Names.{followed, field_id, name_at}
-use Rattle.stepping.specs.Runs.{cursor}
 use Rattle.stepping.specs.declared.cursor.Cursor.{Cursor}
 use Rattle.stepping.specs.declared.cursor.Rules.{Rules}
 use Rattle.stepping.specs.declared.cursor.Rules.TheVariants.{Stream, Sequence, Fields}
@@ -28,12 +26,12 @@ use Rattle.stepping.proofs.Plain.{name_in}
 use Rattle.stepping.proofs.Soundness.{steps-sound}
 use Rattle.counting.specs.Pads.{begins_pad}
 use Rattle.counting.specs.Counted.{Counted, unread, counted}
-use Rattle.counting.specs.Bounded.{Bounded, reached, more, behind_pads, pad_behind, pad_next, stops_among, bounded_in, bounded}
+use Rattle.counting.specs.Bounded.{Bounded, reached, more, behind_pads, pad_behind, pad_next, stops_among, bounded_in}
 use Rattle.counting.specs.BoundedRuns.{PadComes}
 use Rattle.counting.specs.Theorems.{MoreSound, MoreComplete, ElseTheStep}
 use Rattle.counting.proofs.PadReading.{pad_below, below_pad}
 use Rattle.counting.proofs.Bounding.{add_pads, next_named, bound_more, bounded-in, bounded_unread, is_read}
-use Rattle.counting.proofs.Passing.{Passes, here, past, passes_order, passes_bounded}
+use Rattle.counting.proofs.Passing.{Passes, here, past, passes_bounded}
 use Rattle.counting.proofs.BoundedTiling.{by_answer, skips_take}
 
 -- ---- a name, by its bytes

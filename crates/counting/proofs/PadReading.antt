@@ -8,7 +8,7 @@ use mathlib.Core.Bool.{true}
 use mathlib.Core.List.{List}
 use lib.ListN.{length, get_or}
 use lib.Dec.{eqb}
-use Rattle.numbers.specs.Outcome.{gives, and_then}
+use Rattle.numbers.specs.Outcome.{and_then}
 use Rattle.numbers.specs.Answers.{var_uint}
 use Rattle.numbers.specs.Descriptor.{descriptor_of}
 use Rattle.numbers.proofs.Outcomes.{by_case}

@@ -1,6 +1,6 @@
 -- Behind a name: a pad's descriptor makes the tile a pad, as it is read there, and any other byte makes it none.
 -- Assumes nothing.
-use Prim.Native.Nat.{ℕ, ◌+◌, ◌-◌, ◌/◌, ◌%◌, ◌≤◌, ◌<◌}
+use Prim.Native.Nat.{ℕ, ◌+◌, ◌-◌, ◌≤◌, ◌<◌}
 use native.Mathlib.Omega.{arith}
 use mathlib.Core.Path.{◌≡◌, refl, ◌∙◌, sym, ap, subst}
 use mathlib.Core.Bool.{true, false, not, true≢false}
@@ -16,7 +16,7 @@ use Rattle.numbers.proofs.Outcomes.{by_case, then_then, then_same, then_gives, r
 use Rattle.framing.specs.Answers.{is_pad, peeked_descriptor, Frame, as_padding, pad_at, frame_at, read_frame, pad_or_none, read_pad}
 use Rattle.framing.specs.Limits.{out_of_range}
 use Rattle.framing.specs.Spans.{Padding}
-use Rattle.framing.proofs.Bounds.{PeekedAt, peeked_each}
+use Rattle.framing.proofs.Bounds.{peeked_each}
 use Rattle.framing.proofs.Locality.{FrameIs, pad_is, value_is, frame_is}
 use Rattle.stepping.specs.Items.{Item}
 use Rattle.stepping.specs.Answers.{Tile, skip, hand, version_passes, marker_at, tile_at}

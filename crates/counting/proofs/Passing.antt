@@ -4,13 +4,12 @@ use Prim.Native.Nat.{ℕ, zero, suc, ◌+◌, ◌-◌, ◌≤◌, ◌<◌}
 use native.Mathlib.Omega.{arith}
 use mathlib.Core.Path.{◌≡◌, refl, ◌∙◌, sym, ap}
 use mathlib.Core.Bool.{Bool, true, false, true≢false}
-use mathlib.Core.List.{List, [], ◌∷◌}
+use mathlib.Core.List.{List}
 use lib.ListN.{length}
 use Rattle.numbers.specs.Outcome.{Outcome, gives, refuses, pick, and_then}
-use Rattle.numbers.proofs.Outcomes.{by_case}
 use Rattle.framing.specs.Limits.{out_of_range}
-use Rattle.stepping.specs.Items.{Item, finish, Pad}
-use Rattle.stepping.specs.Answers.{skip, tile_at, Found, passing, stop, found}
+use Rattle.stepping.specs.Items.{Item}
+use Rattle.stepping.specs.Answers.{skip, tile_at, Found, found}
 use Rattle.stepping.specs.Runs.{cursor}
 use Rattle.stepping.specs.Private.Tiles.{handed}
 use Rattle.stepping.specs.declared.cursor.Rules.{Rules}

@@ -1,23 +1,22 @@
 -- Repeating the bounded step reaches what the step gives: each answer of kind 4 takes the largest number of pads off those that are left.
 -- Assumes nothing.
-use Prim.Native.Nat.{ℕ, zero, suc, ◌+◌, ◌-◌, ◌*◌, ◌/◌, ◌%◌, ◌≤◌, ◌<◌}
+use Prim.Native.Nat.{ℕ, zero, suc, ◌+◌, ◌-◌, ◌*◌, ◌/◌, ◌≤◌, ◌<◌}
 use native.Mathlib.Omega.{arith}
 use native.Mathlib.Nat.{zero-mul, suc-mul, mod-lt, div-add-mod', zero-div}
 use mathlib.Core.Path.{◌≡◌, refl, ◌∙◌, sym, ap, subst}
 use mathlib.Core.Bool.{true, false}
 use mathlib.Core.List.{List}
 use lib.ListN.{length}
-use Rattle.numbers.specs.Outcome.{Outcome, gives, refuses, pick, outside_of}
+use Rattle.numbers.specs.Outcome.{refuses}
 use Rattle.numbers.proofs.Outcomes.{by_case, inside, inside_order, inside_end}
 use Rattle.framing.specs.Limits.{out_of_range}
-use Rattle.stepping.specs.Items.{Item}
 use Rattle.stepping.specs.Answers.{stop, skip_pads, found, after, step_of}
 use Rattle.stepping.specs.Runs.{cursor}
 use Rattle.stepping.specs.declared.cursor.Cursor.{Cursor}
 use Rattle.stepping.specs.declared.cursor.Rules.{Rules}
 use Rattle.stepping.proofs.PadSkipping.{skipping}
 use Rattle.counting.specs.Counted.{Counted, unread, counted}
-use Rattle.counting.specs.Bounded.{Bounded, reached, more, behind_pads, pad_next, bounded_in, bounded, bounded_after, bounded_step_of}
+use Rattle.counting.specs.Bounded.{reached, behind_pads, pad_next, bounded_in, bounded, bounded_after, bounded_step_of}
 use Rattle.counting.specs.BoundedRuns.{Repeats, none, again, pads_met, repetitions, Reaches}
 use Rattle.counting.specs.Theorems.{Repeating}
 use Rattle.counting.proofs.Finding.{found_unread}

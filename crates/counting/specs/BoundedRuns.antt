@@ -2,14 +2,14 @@
 -- Assumes nothing.
 use Rattle.std.specs.Prelude.{ℕ, suc, ◌+◌, ◌-◌, ◌*◌, ◌/◌, ◌≤◌, ◌<◌, ◌≡◌, true, length, get_or, take}
 use mathlib.Core.List.{List, [], ◌∷◌, Memᴰ}
-use Rattle.numbers.specs.Outcome.{Outcome, gives, refuses, pick}
+use Rattle.numbers.specs.Outcome.{gives, refuses, pick}
 use Rattle.stepping.specs.Items.{Item, finish, Pad}
 use Rattle.stepping.specs.Answers.{tile_at, found, step_of}
 use Rattle.stepping.specs.Format.{NameBytes}
 use Rattle.stepping.specs.Runs.{cursor, Piece, skipped_all, of_call, Tiles}
 use Rattle.stepping.specs.declared.cursor.Cursor.{Cursor}
 use Rattle.stepping.specs.declared.cursor.Rules.{Rules}
-use Rattle.counting.specs.Counted.{Counted, counted}
+use Rattle.counting.specs.Counted.{counted}
 use Rattle.counting.specs.Bounded.{Bounded, reached, more, behind_pads, pad_next, bounded, bounded_after, BoundedStepped, bounded_step_of}
 
 -- ---- a pad's descriptor by its bytes

@@ -4,7 +4,7 @@ use Prim.Native.Nat.{ℕ, ◌+◌, ◌-◌, ◌*◌, ◌/◌, ◌%◌, ◌^◌, 
 use native.Mathlib.Omega.{arith}
 use mathlib.Core.Path.{◌≡◌, refl, ◌∙◌, sym, ap, subst}
 use mathlib.Core.Bool.{true, false}
-use mathlib.Core.Logic.{◌⊎◌, inl, inr, ⊎_elim}
+use mathlib.Core.Logic.{inl, inr, ⊎_elim}
 use mathlib.Core.List.{List, [], ◌∷◌, ◌++◌}
 use lib.ListN.{length, get_or, length-append}
 use lib.Dec.{ltb}
@@ -14,12 +14,11 @@ use Rattle.numbers.specs.Bytes.{part}
 use Rattle.numbers.specs.Format.{VarBytes, var_uint_of, NumberAt}
 use Rattle.numbers.proofs.Outcomes.{by_test, by_case}
 use Rattle.numbers.proofs.Parts.{part_length}
-use Rattle.framing.specs.Spans.{Spans}
-use Rattle.framing.specs.Format.{type_at, code_at, CodeLength, short, long, ValueLength, coded, ValueType, typed, Legal, TypedValue, AnnotationWrapper}
+use Rattle.framing.specs.Format.{type_at, code_at, CodeLength, short, long, ValueLength, coded, typed, Legal}
 use Rattle.encoding.specs.Fields.{var_uint_size, var_uint_bytes}
-use Rattle.encoding.specs.Heads.{head_code, head_byte, head_bytes, head_size, typed_bytes, typed_spans, wrapped_bytes, wrapper_bytes, wrapper_spans}
-use Rattle.encoding.specs.Meaning.{Sized, HeadShortest, HeadGrows, StandsAt, Writable, TypedBack, Wrapper, WrapperBack}
-use Rattle.encoding.proofs.VarUInts.{size_low, bytes_size, var-uint-sized, var-uint-shortest, var_uint_grows}
+use Rattle.encoding.specs.Heads.{head_code, head_byte, head_bytes, head_size, typed_bytes, wrapped_bytes, wrapper_bytes}
+use Rattle.encoding.specs.Meaning.{Sized, HeadShortest, HeadGrows, StandsAt, Writable, TypedBack, WrapperBack}
+use Rattle.encoding.proofs.VarUInts.{bytes_size, var-uint-sized, var-uint-shortest, var_uint_grows}
 use Rattle.encoding.proofs.Standing.{stands_first, stands_rest, stands_byte, stands_next}
 
 -- ---- sizes

@@ -5,17 +5,16 @@ use native.Mathlib.Omega.{arith}
 use native.Mathlib.Nat.{pow-zero, pow-suc, pow-le-pow_right, one-le-pow, lt_of_lt_of_le, mul_assoc, mul_comm, add-mul, mod-lt, mod-mod, mod-eq_of_lt, div-add-mod', mul-add-mod_self_right, lt-div-mul-add, div-eq_of_lt, div-div-eq-div-mul}
 use native.Mathlib.Numerals.{add-one}
 use mathlib.Core.Path.{◌≡◌, refl, ◌∙◌, sym, ap, subst}
-use mathlib.Core.List.{List, [], ◌∷◌, map}
+use mathlib.Core.List.{List, map}
 use lib.ListN.{length, length-map}
 use lib.Dec.{ltb}
 use borrow.Author.Tests.{ltb-true, ltb-false, lt-ltb, le-ltb}
-use Rattle.numbers.specs.Outcome.{pick}
 use Rattle.numbers.specs.Format.{VarBytes, last, more, of_digits, uint_of, low_seven, var_uint_of}
 use Rattle.numbers.specs.Answers.{most_bytes}
 use Rattle.numbers.proofs.Outcomes.{by_test, by_case}
 use Rattle.numbers.proofs.Digits.{digit_below, digits_below, lows_below}
 use Rattle.encoding.specs.Fields.{var_uint_in, fewest, var_uint_size, var_uint_bytes, big_endian}
-use Rattle.encoding.specs.Meaning.{WrittenIn, VarUIntWritten, Sized, VarUIntSized, VarUIntPast, VarUIntShortest, VarUIntGrows, UIntIn, UIntWritten}
+use Rattle.encoding.specs.Meaning.{VarUIntWritten, VarUIntSized, VarUIntPast, VarUIntShortest, VarUIntGrows, UIntWritten}
 
 -- ---- digits
 

@@ -1,4 +1,4 @@
--- What is written, read back, and that nothing with the same worth is shorter. The proofs: `var-uint-written`, `var-uint-sized` and `var-uint-shortest` of
+-- What is written, read back, and that nothing with the same worth is shorter. The proofs: `var_uint_written`, `var-uint-sized` and `var-uint-shortest` of
 -- proofs/VarUInts.antt; `head-shortest`, `typed-back` and `wrapper-back` of proofs/Heads.antt.
 -- Assumes nothing.
 use Rattle.std.specs.Prelude.{ℕ, suc, ◌+◌, ◌-◌, ◌^◌, ◌≤◌, ◌<◌, ◌≡◌, ◌⊎◌, List, length}
@@ -7,7 +7,7 @@ use Rattle.numbers.specs.Bytes.{part}
 use Rattle.framing.specs.Spans.{Spans}
 use Rattle.framing.specs.Format.{CodeLength, TypedValue, AnnotationWrapper}
 use Rattle.encoding.specs.Fields.{var_uint_in, var_uint_size, var_uint_bytes, big_endian}
-use Rattle.encoding.specs.Heads.{head_code, head_size, typed_bytes, typed_spans, wrapped_bytes, wrapper_bytes, wrapper_spans}
+use Rattle.encoding.specs.Heads.{head_size, typed_bytes, typed_spans, wrapped_bytes, wrapper_bytes, wrapper_spans}
 
 -- a VarUInt of k + 1 bytes is a field of the document, and tells what was written
 pub record WrittenIn (k n : ℕ) : Type 0 where

@@ -2,19 +2,19 @@
 -- Assumes nothing.
 use Prim.Native.Nat.{ℕ, ◌+◌, ◌-◌, ◌≤◌, ◌<◌}
 use native.Mathlib.Omega.{arith}
-use borrow.Author.Tests.{ltb-false, eqb-false, eqb-true, not-false}
+use borrow.Author.Tests.{ltb-false, eqb-false}
 use mathlib.Core.Path.{◌≡◌, refl}
-use mathlib.Core.Bool.{Bool, true, false, not}
+use mathlib.Core.Bool.{not}
 use mathlib.Core.List.{List}
 use lib.ListN.{length, get_or}
 use lib.Dec.{ltb, eqb}
-use Rattle.numbers.specs.Outcome.{Outcome, gives, pick, refuse_if, and_then}
-use Rattle.numbers.specs.Answers.{Unsigned, most_bytes, var_uint}
+use Rattle.numbers.specs.Outcome.{and_then}
+use Rattle.numbers.specs.Answers.{most_bytes}
 use Rattle.numbers.specs.Descriptor.{descriptor_of}
 use Rattle.numbers.specs.declared.type_descriptor.TypeDescriptor.{TypeDescriptor}
-use Rattle.numbers.proofs.Outcomes.{Each, given, each_refuse, each_pick, each_within, each_then, each_of}
-use Rattle.numbers.proofs.Meaning.{Bounded, var_uint_bounded}
-use Rattle.framing.specs.Answers.{peeked_descriptor, Sized, sized_by, length_at, length_tests, value_length, fitting, value_without_annotations, padded, pad_at, Wrapping, wrapper_tests, annotations_at, wrapper_at, inner_value, wrapped, unwrapped, annotated_value, value_at, bad_float, short_timestamp, empty_ordered, no_value, is_pad, is_wrapper, read_value, Frame, padding, valued, frame_at, read_frame}
+use Rattle.numbers.proofs.Outcomes.{Each, given, each_refuse, each_pick, each_within, each_then}
+use Rattle.numbers.proofs.Meaning.{var_uint_bounded}
+use Rattle.framing.specs.Answers.{peeked_descriptor, Sized, length_at, length_tests, value_length, fitting, value_without_annotations, padded, pad_at, Wrapping, wrapper_tests, annotations_at, wrapper_at, inner_value, wrapped, unwrapped, annotated_value, value_at, bad_float, short_timestamp, empty_ordered, no_value, is_pad, is_wrapper, read_value, Frame, padding, valued, frame_at, read_frame}
 use Rattle.framing.specs.Spans.{Spans, Padding}
 
 -- a descriptor is one of the part

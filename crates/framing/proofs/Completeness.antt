@@ -1,26 +1,25 @@
 -- A value or a pad of the Ion document that fits the part and the limits is framed: each reading gives its field, and each test passes.
 -- Assumes nothing.
-use Prim.Native.Nat.{ℕ, ◌+◌, ◌-◌, ◌/◌, ◌%◌, ◌≤◌, ◌<◌}
+use Prim.Native.Nat.{ℕ, ◌+◌, ◌-◌, ◌≤◌, ◌<◌}
 use native.Mathlib.Omega.{arith}
 use native.Mathlib.Nat.{mod-lt}
-use borrow.Author.Tests.{ltb-true, ltb-false, eqb-true, eqb-false, le-ltb, lt-ltb, eq-eqb, ne_eqb}
-use mathlib.Core.Path.{◌≡◌, refl, ◌∙◌, sym, ap, subst}
-use mathlib.Core.Bool.{Bool, true, false, not}
-use mathlib.Core.Logic.{◌⊎◌, inl, inr, ⊎_elim}
+use borrow.Author.Tests.{eqb-true, eqb-false, le-ltb, lt-ltb, eq-eqb, ne_eqb}
+use mathlib.Core.Path.{◌≡◌, refl, ◌∙◌, sym, ap}
+use mathlib.Core.Bool.{true, false}
+use mathlib.Core.Logic.{⊎_elim}
 use mathlib.Core.List.{List}
 use lib.ListN.{length, get_or}
 use lib.Dec.{ltb, eqb}
-use Rattle.numbers.specs.Outcome.{Outcome, gives, refuse_if, and_then, pick}
+use Rattle.numbers.specs.Outcome.{gives, and_then}
 use Rattle.numbers.specs.Bytes.{part}
-use Rattle.numbers.specs.Format.{var_uint_of, NumberAt}
-use Rattle.numbers.specs.Answers.{most_bytes, Unsigned, unsigned, var_uint}
+use Rattle.numbers.specs.Format.{var_uint_of}
+use Rattle.numbers.specs.Answers.{most_bytes}
 use Rattle.numbers.specs.Descriptor.{descriptor_of, kind_of}
-use Rattle.numbers.specs.declared.type_descriptor.TypeDescriptor.{TypeDescriptor}
-use Rattle.numbers.proofs.Outcomes.{by_test, by_case, within_part}
+use Rattle.numbers.proofs.Outcomes.{by_test, within_part}
 use Rattle.numbers.proofs.Meaning.{var-uint-complete}
-use Rattle.framing.specs.Answers.{peeked_descriptor, Sized, sized_by, length_at, value_code, bad_float, short_timestamp, empty_ordered, length_tests, value_length, fitting, value_without_annotations, padded, pad_at, Wrapping, wrapper_tests, annotations_at, wrapper_at, inner_value, wrapped, unwrapped, annotated_value, value_at, read_value, pad_or_none, read_pad, frame_at, read_frame, padding, valued, as_padding, as_valued, is_pad, is_wrapper, no_value}
-use Rattle.framing.specs.Spans.{Spans, Padding}
-use Rattle.framing.specs.Format.{type_at, code_at, CodeLength, short, long, ValueLength, none, null, coded, ordered, Legal, TypedValue, NopPadding, AnnotationWrapper, ValueBytes, plain, annotated}
+use Rattle.framing.specs.Answers.{peeked_descriptor, length_at, value_code, bad_float, short_timestamp, empty_ordered, length_tests, value_length, fitting, value_without_annotations, padded, pad_at, Wrapping, wrapper_tests, annotations_at, wrapper_at, inner_value, wrapped, unwrapped, annotated_value, value_at, read_value, pad_or_none, read_pad, frame_at, read_frame, is_pad}
+use Rattle.framing.specs.Spans.{Spans}
+use Rattle.framing.specs.Format.{type_at, code_at, CodeLength, short, long, ValueLength, none, null, coded, ordered, Legal, TypedValue, AnnotationWrapper, ValueBytes, plain, annotated}
 use Rattle.framing.specs.Meaning.{Within, ValuesComplete, PadsComplete}
 use Rattle.framing.proofs.Nibbles.{IsValue, is_value, IsWrapper, is-wrapper, is-pad}
 use Rattle.framing.proofs.Soundness.{here}

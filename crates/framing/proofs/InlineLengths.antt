@@ -1,7 +1,7 @@
 -- What a descriptor tells of its value's length: the table of length codes holds the rule, by one computed test; and a length that is told is what the reading
 -- of a length gives.
 -- Assumes nothing.
-use Prim.Native.Nat.{ℕ, zero, suc, ◌+◌, ◌-◌, ◌/◌, ◌%◌, ◌^◌, ◌<◌}
+use Prim.Native.Nat.{ℕ, zero, suc, ◌+◌, ◌/◌, ◌%◌, ◌^◌, ◌<◌}
 use native.Mathlib.Omega.{arith}
 use borrow.Author.Tests.{eqb-true, eqb-false, not-true, lt-ltb, ltb-true, ne_eqb}
 use mathlib.Core.Path.{◌≡◌, refl, sym, subst}

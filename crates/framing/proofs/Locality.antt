@@ -5,25 +5,23 @@ use Prim.Native.Nat.{ℕ, ◌+◌, ◌-◌, ◌/◌, ◌%◌, ◌≤◌, ◌<◌
 use native.Mathlib.Omega.{arith}
 use borrow.Author.Tests.{eqb-false}
 use mathlib.Core.Path.{◌≡◌, refl, ◌∙◌, sym, ap, subst}
-use mathlib.Core.Bool.{Bool, true, false}
 use mathlib.Core.List.{List}
 use lib.ListN.{length, get_or}
-use lib.Dec.{ltb, eqb}
+use lib.Dec.{eqb}
 use Rattle.numbers.specs.Format.{VarBytes, var_uint_of, NumberAt}
-use Rattle.numbers.specs.Outcome.{Outcome, gives, refuses, refuse_if, and_then, pick}
+use Rattle.numbers.specs.Outcome.{Outcome, gives, and_then}
 use Rattle.numbers.specs.Bytes.{part, Same}
-use Rattle.numbers.specs.Answers.{Unsigned, var_uint, looked_to}
+use Rattle.numbers.specs.Answers.{Unsigned, looked_to}
 use Rattle.numbers.specs.Descriptor.{descriptor_of}
 use Rattle.numbers.specs.declared.type_descriptor.TypeDescriptor.{TypeDescriptor}
 use Rattle.numbers.proofs.Outcomes.{Each, given, each_then, each_pick, each_if, refuse_same, pick_same, then_same}
 use Rattle.numbers.proofs.Parts.{part_same}
-use Rattle.numbers.proofs.Meaning.{Bounded, var_uint_bounded}
 use Rattle.numbers.proofs.Locality.{within_local, var_uint_local, looked_high}
-use Rattle.framing.specs.Answers.{peeked_descriptor, Sized, sized_by, length_at, value_code, length_tests, value_length, fitting, value_without_annotations, padded, pad_at, Wrapping, wrapper_tests, annotations_at, wrapper_at, inner_value, wrapped, unwrapped, annotated_value, value_at, read_value, pad_or_none, read_pad, frame_at, read_frame, Frame, padding, valued, as_padding, as_valued, is_pad, is_wrapper, no_value, Annotated, finished, identified, read_annotation}
+use Rattle.framing.specs.Answers.{peeked_descriptor, sized_by, length_at, value_code, value_length, value_without_annotations, pad_at, wrapper_tests, annotations_at, wrapper_at, inner_value, wrapped, unwrapped, annotated_value, value_at, read_value, pad_or_none, read_pad, frame_at, read_frame, Frame, padding, valued, as_padding, as_valued, is_pad, is_wrapper, no_value, read_annotation}
 use Rattle.framing.specs.Spans.{Spans, Padding}
-use Rattle.framing.specs.Format.{type_at, code_at, CodeLength, short, long, ValueLength, none, null, coded, ordered, ValueType, Legal, TypedValue, NopPadding, AnnotationWrapper, ValueBytes, plain, annotated}
+use Rattle.framing.specs.Format.{CodeLength, short, long, ValueLength, none, null, coded, ordered, ValueType, Legal, TypedValue, NopPadding, AnnotationWrapper, ValueBytes, plain, annotated}
 use Rattle.framing.specs.Meaning.{Within}
-use Rattle.framing.proofs.Bounds.{PeekedAt, peeked_each, SizedAt, length_each, WrapperAt, wrapper_each}
+use Rattle.framing.proofs.Bounds.{peeked_each, length_each, wrapper_each}
 use Rattle.framing.proofs.Soundness.{values-sound, pads-sound}
 use Rattle.framing.proofs.Completeness.{values-complete, pads-complete}
 

@@ -1,17 +1,17 @@
 -- A value is where it stands, and then the value there: with a wrapper and without one.
 -- Assumes nothing.
-use Prim.Native.Nat.{ℕ, ◌+◌, ◌-◌, ◌≤◌, ◌<◌}
+use Prim.Native.Nat.{ℕ, ◌-◌, ◌≤◌, ◌<◌}
 use native.Mathlib.Omega.{arith}
 use borrow.Author.Tests.{ne_eqb}
 use mathlib.Core.Path.{◌≡◌, refl, ◌∙◌, sym}
 use mathlib.Core.List.{List}
 use lib.ListN.{length, get_or}
-use lib.Dec.{ltb, eqb}
-use Rattle.numbers.specs.Outcome.{Outcome, gives, refuse_if, and_then}
+use lib.Dec.{ltb}
+use Rattle.numbers.specs.Outcome.{gives, refuse_if, and_then}
 use Rattle.numbers.specs.declared.type_descriptor.TypeDescriptor.{TypeDescriptor}
 use Rattle.numbers.proofs.Outcomes.{by_case, refuse_same, refuse_first, Each, given, each_refuse, each_pick, each_then, then_same, then_then, then_like}
 use Rattle.framing.specs.Answers.{peeked_descriptor, Sized, value_length, fitting, value_without_annotations, Wrapping, wrapper_at, inner_value, wrapped, unwrapped, annotated_value, value_at, is_pad, is_wrapper, no_value}
-use Rattle.framing.specs.Private.Located.{Location, inner_tests, inner_at, location_in_wrapper, location_at, differs_from, fitted, located_value}
+use Rattle.framing.specs.Private.Located.{inner_tests, inner_at, location_in_wrapper, location_at, differs_from, fitted, located_value}
 use Rattle.framing.proofs.Bounds.{peeked_each, wrapper_each}
 
 -- the value stands in the part

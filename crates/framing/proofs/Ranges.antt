@@ -3,13 +3,13 @@
 use Prim.Native.Nat.{ℕ, ◌≤◌, ◌<◌}
 use native.Mathlib.Omega.{arith}
 use borrow.Author.Tests.{ltb-true, ltb-false, le-ltb}
-use mathlib.Core.Path.{◌≡◌, refl}
+use mathlib.Core.Path.{◌≡◌}
 use mathlib.Core.Bool.{true, false, true≢false}
 use mathlib.Core.Logic.{◌⊎◌, inl, inr}
 use lib.Dec.{ltb}
-use Rattle.numbers.specs.Outcome.{Outcome, pick, refuse_if}
+use Rattle.numbers.specs.Outcome.{Outcome}
 use Rattle.numbers.proofs.Outcomes.{by_test}
-use Rattle.framing.specs.Limits.{least_limit, most_limit, out_of_range, limited, RangeOf, LimitRange}
+use Rattle.framing.specs.Limits.{least_limit, most_limit, out_of_range, limited, LimitRange}
 
 pub limit-range : LimitRange
 unfolding out_of_range

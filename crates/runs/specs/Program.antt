@@ -1,5 +1,5 @@
--- The program's own answers: what the machine returned to calls of the six entries, and that each call ends. The theorems on runs, of these: `program-tiling`,
--- `program-overwriting`, `program-one-body` and `program-ends` of proofs/Program.antt. As a function's statement is, they are for
+-- The program's own answers: what the machine returned to calls of the six entries, and that each call ends. The theorems on runs, of these: `program_tiling`,
+-- `program_overwriting`, `program_one_body` and `program_ends` of proofs/Program.antt. As a function's statement is, they are for
 -- every model of the machine and every environment that has the functions' code.
 -- Assumes nothing.
 use Rattle.std.specs.Prelude.{ℕ, ◌≡◌, List}

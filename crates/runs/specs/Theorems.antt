@@ -1,5 +1,5 @@
--- What holds of whole runs on two maps. The proofs: `overwriting` of proofs/Overwriting.antt, `parts-are-sets` of proofs/PartSets.antt, `one-body` and
--- `still-reached` of proofs/OneBody.antt; of the program's own answers, proofs/Program.antt.
+-- What holds of whole runs on two maps. The proofs: `overwriting` of proofs/Overwriting.antt, `parts-are-sets` of proofs/PartSets.antt, `one_body` and
+-- `still_reached` of proofs/OneBody.antt; of the program's own answers, proofs/Program.antt.
 -- Assumes nothing.
 use Rattle.std.specs.Prelude.{ℕ, List}
 use Rattle.runs.specs.Reached.{ReachedBody, Agree, In, ByRules, SameAnswers}

@@ -18,7 +18,7 @@ use Rattle.framing.specs.Limits.{out_of_range}
 use Rattle.framing.specs.Spans.{Spans, Padding}
 use Rattle.framing.specs.Format.{type_at, CodeLength, short, long, ValueType, typed, null_null, NopPadding, ValueBytes, plain, annotated}
 use Rattle.framing.proofs.Completeness.{values-complete, pads-complete}
-use Rattle.stepping.specs.Items.{Item, finish, value, field, Pad}
+use Rattle.stepping.specs.Items.{Item, finish, Pad}
 use Rattle.stepping.specs.Answers.{skip, hand, marker_at, framed_at, named_at, field_at, tile_at, Found, stop, limited_found, found}
 use Rattle.stepping.specs.Format.{NameBytes, in_stream, in_sequence, in_fields, ItemAt, marker-at, value_in_stream, value_in_sequence, field-at}
 use Rattle.stepping.specs.Meaning.{ItemWithin, Skips, arrived, passed, StepsComplete}

@@ -8,10 +8,9 @@ use Rattle.numbers.specs.Format.{of_digits, var_uint_of}
 use Rattle.numbers.specs.Outcome.{gives, refuses, outside_of}
 use Rattle.numbers.specs.Answers.{last_among, last_byte, var_number, var_uint}
 use Rattle.numbers.specs.Descriptor.{kind_of, descriptor_of}
-use Rattle.framing.specs.Spans.{Spans}
 use Rattle.framing.specs.Limits.{out_of_range}
 use Rattle.framing.specs.Answers.{peeked_descriptor, length_at, value_code, bad_float, short_timestamp, empty_ordered, length_tests, value_length, fitting, value_without_annotations, padded, pad_at, value_at, frame_at, read_frame}
-use Rattle.stepping.specs.Items.{finish, marker, value, field, Pad}
+use Rattle.stepping.specs.Items.{finish, marker, value, field}
 use Rattle.stepping.specs.Answers.{marker_at, framed_at, named_at, field_at, tile_at, skip_pads, found, Stepped, step_of}
 use Rattle.stepping.specs.Runs.{cursor, Answers, Run, none, call, skipped, handed, Tiles}
 use Rattle.stepping.specs.declared.cursor.Cursor.{Cursor}

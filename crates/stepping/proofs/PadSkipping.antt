@@ -1,19 +1,18 @@
 -- A step as a derivation: the pads that it passes, one after the other, and then what it finds. `found` is what the one derivation finds.
 -- Assumes nothing.
-use Prim.Native.Nat.{ℕ, zero, suc, ◌+◌, ◌-◌, ◌≤◌, ◌<◌}
+use Prim.Native.Nat.{ℕ, zero, suc, ◌-◌, ◌≤◌, ◌<◌}
 use native.Mathlib.Omega.{arith}
 use borrow.Author.Tests.{ltb-true, ltb-false, lt-ltb, le-ltb}
 use mathlib.Core.Path.{◌≡◌, refl, ◌∙◌, sym, ap}
-use mathlib.Core.Bool.{Bool, true, false}
-use mathlib.Core.List.{List, [], ◌∷◌}
-use mathlib.Core.Logic.{◌⊎◌, inl, inr}
+use mathlib.Core.Bool.{true, false}
+use mathlib.Core.List.{List}
 use lib.ListN.{length}
 use lib.Dec.{ltb}
-use Rattle.numbers.specs.Outcome.{Outcome, gives, refuses, pick, and_then, outside_of}
+use Rattle.numbers.specs.Outcome.{Outcome, gives, refuses, and_then, outside_of}
 use Rattle.numbers.proofs.Outcomes.{by_test, inside, inside_order, inside_end}
 use Rattle.framing.specs.Limits.{out_of_range}
-use Rattle.stepping.specs.Items.{Item, finish, item_end, Pad}
-use Rattle.stepping.specs.Answers.{Tile, skip, hand, tile_at, Found, passing, stop, on_tile, skip_pads, found, Stepped, after, step_of}
+use Rattle.stepping.specs.Items.{Item, finish}
+use Rattle.stepping.specs.Answers.{Tile, skip, hand, tile_at, Found, passing, stop, on_tile, skip_pads, found, after, step_of}
 use Rattle.stepping.specs.Private.Tiles.{handed}
 use Rattle.stepping.specs.declared.cursor.Cursor.{Cursor}
 use Rattle.stepping.specs.declared.cursor.Rules.{Rules}

@@ -10,10 +10,10 @@ use lib.ListN.{length, get_or}
 use lib.Dec.{ltb, eqb}
 use Rattle.numbers.specs.Outcome.{gives}
 use Rattle.numbers.proofs.Outcomes.{Each, given, each_refuse, each_pick, each_then, each_of, Proper, gave, proper_refuse, proper_pick, proper_then}
-use Rattle.numbers.proofs.Meaning.{Bounded, var_uint_bounded, var_uint_proper}
+use Rattle.numbers.proofs.Meaning.{var_uint_bounded, var_uint_proper}
 use Rattle.framing.specs.Answers.{Frame, padding, valued}
 use Rattle.framing.specs.Spans.{Spans}
-use Rattle.framing.proofs.Bounds.{FrameIn, pad_in, value_in, frame_each, PaddedAt, Ordered}
+use Rattle.framing.proofs.Bounds.{FrameIn, pad_in, value_in, frame_each}
 use Rattle.framing.proofs.Refusing.{frame_proper}
 use Rattle.stepping.specs.Items.{Item, marker, value, field, item_end}
 use Rattle.stepping.specs.Answers.{Tile, skip, hand, version_passes, marker_at, framed_at, as_tile, named_at, as_field, field_at, tile_at}

@@ -11,7 +11,7 @@ use Rattle.numbers.specs.Outcome.{Outcome, gives, refuses}
 use Rattle.framing.specs.Spans.{Spans}
 use Rattle.framing.specs.Format.{ValueBytes, plain, annotated}
 use Rattle.stepping.specs.Items.{Item, finish, marker, value, field, Pad}
-use Rattle.stepping.specs.Answers.{found, step_of, answer_at}
+use Rattle.stepping.specs.Answers.{step_of, answer_at}
 use Rattle.stepping.specs.Runs.{cursor}
 use Rattle.stepping.specs.Format.{NameBytes, in_stream, in_sequence, in_fields, ItemAt, marker-at, value_in_stream, value_in_sequence, field-at}
 use Rattle.stepping.specs.Meaning.{Skips, arrived, passed, Stands, the_end, the_item, refused_there, no_part, no_limit}

@@ -1,16 +1,15 @@
 -- What is made of an item of the stream, of a table's field and of a list's entry leads to the item's end, if anywhere.
 -- Assumes nothing.
-use Prim.Native.Nat.{ℕ, ◌-◌}
-use mathlib.Core.Path.{◌≡◌, refl}
-use mathlib.Core.Bool.{Bool, true, false}
+use Prim.Native.Nat.{ℕ}
+use mathlib.Core.Path.{refl}
+use mathlib.Core.Bool.{Bool}
 use mathlib.Core.List.{List}
 use lib.Dec.{ltb, eqb}
-use Rattle.numbers.specs.Outcome.{Outcome, gives, refuses, pick}
+use Rattle.numbers.specs.Outcome.{Outcome, gives, refuses}
 use Rattle.numbers.proofs.Outcomes.{by_test}
 use Rattle.framing.specs.Spans.{Spans}
-use Rattle.stepping.specs.Items.{Item, finish, marker, value, field}
-use Rattle.symbols.specs.Turns.{Turn, over, further}
-use Rattle.symbols.specs.Text.{is_table, Ruling, system_alone, table, tabled, on_stream, Own, list_of, SymbolsField, on_field, Text, entry_text, on_entry}
+use Rattle.stepping.specs.Items.{finish, marker, value, field}
+use Rattle.symbols.specs.Text.{is_table, Ruling, tabled, on_stream, on_field, on_entry}
 use Rattle.symbols.proofs.Stepping.{Leads, stops, goes, Follows}
 
 tabled_leads : (v : Spans) (r : Ruling) (o : Outcome Bool) → Leads (value v) (tabled v r o)

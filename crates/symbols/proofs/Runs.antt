@@ -18,10 +18,10 @@ use Rattle.stepping.specs.declared.cursor.Cursor.{Cursor}
 use Rattle.stepping.specs.declared.cursor.Rules.{Rules}
 use Rattle.stepping.specs.declared.cursor.Rules.TheVariants.{Stream, Sequence, Fields}
 use Rattle.symbols.specs.Turns.{Turn, over, further, turned, meets, step_until, step_all}
-use Rattle.symbols.specs.Text.{is_table, Ruling, system_alone, table, tabled, on_stream, ruling_at, Own, no_list, listed, SymbolsField, on_field, own_list, Text, unknown, entry_text, on_entry, own_text}
+use Rattle.symbols.specs.Text.{is_table, Ruling, system_alone, table, tabled, on_stream, ruling_at, Own, no_list, SymbolsField, on_field, own_list, unknown, entry_text, on_entry, own_text}
 use Rattle.symbols.specs.TextTheorems.{AllHanded, none_handed, also_handed, item_start, ruled_behind, RulingOfRuns, PlaceGiven, PlacesGiven, list_behind, ListOfRuns, EntryOfRuns}
 use Rattle.symbols.proofs.Answered.{Met, ended, a_marker, a_value, a_field, met, is_handed, is-handed}
-use Rattle.symbols.proofs.Stepping.{steps_over, steps_further, Follows, Leads, stops, goes}
+use Rattle.symbols.proofs.Stepping.{steps_over, steps_further, Leads, stops, goes}
 use Rattle.symbols.proofs.Handlers.{stream_follows, field_follows, entry_follows}
 
 -- ---- a call that hands an item out

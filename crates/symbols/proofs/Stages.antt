@@ -1,24 +1,23 @@
 -- The two stages are the lookup: a list that is found lies in the slice, and an empty one has no entry.
 -- Assumes nothing.
-use Prim.Native.Nat.{ℕ, ◌-◌, ◌≤◌, ◌<◌}
+use Prim.Native.Nat.{ℕ, ◌-◌, ◌≤◌}
 use native.Mathlib.Omega.{arith}
 use borrow.Author.Tests.{not-false}
-use mathlib.Core.Path.{◌≡◌, refl, ◌∙◌, sym, ap}
+use mathlib.Core.Path.{◌≡◌, refl, ap}
 use mathlib.Core.Bool.{true, false, not}
 use mathlib.Core.List.{List}
 use lib.ListN.{length}
 use lib.Dec.{ltb, eqb}
-use Rattle.numbers.specs.Outcome.{Outcome, gives, pick, and_then, outside_of}
+use Rattle.numbers.specs.Outcome.{gives}
 use Rattle.numbers.proofs.Outcomes.{by_test, inside, Each, given, refused, each_refuse, each_within, each_then, each_if, each_map, then_same, pick_same}
 use Rattle.framing.specs.Limits.{out_of_range}
 use Rattle.framing.specs.Spans.{Spans}
-use Rattle.stepping.specs.Items.{Item, finish, marker, value, field}
-use Rattle.stepping.specs.Answers.{answer_at}
+use Rattle.stepping.specs.Items.{finish, marker, value, field}
 use Rattle.stepping.specs.declared.cursor.Rules.TheVariants.{Stream, Sequence, Fields}
 use Rattle.stepping.proofs.Moves.{moves_end}
 use Rattle.symbols.specs.SystemTexts.{system_bytes, same_bytes}
 use Rattle.symbols.specs.Turns.{meets}
-use Rattle.symbols.specs.Text.{is_typed, Ruling, system_alone, table, on_stream, Own, no_list, listed, list_of, SymbolsField, on_field, own_list, unknown, system_text, on_entry, own_text, text_in, ruling_at, symbols_at, text_of, list_text}
+use Rattle.symbols.specs.Text.{is_typed, Ruling, system_alone, table, on_stream, Own, no_list, listed, list_of, SymbolsField, on_field, own_list, unknown, on_entry, own_text, text_in, ruling_at, symbols_at, text_of, list_text}
 use Rattle.symbols.specs.TextTheorems.{list_start, list_end, TwoStages, StepsEnough}
 use Rattle.symbols.proofs.Answered.{Met, ValueMet, a_field}
 use Rattle.symbols.proofs.Stepping.{EachTurn, each_over, each_further, EachItem, each_all, enough, steps_over}

@@ -1,24 +1,20 @@
 -- Where the text of an ID lies, and what it is: by what is made of the list's entries, and by the nine texts.
 -- Assumes nothing.
-use Prim.Native.Nat.{ℕ, zero, suc, ◌-◌, ◌≤◌, ◌<◌}
+use Prim.Native.Nat.{ℕ, suc, ◌-◌, ◌≤◌, ◌<◌}
 use native.Mathlib.Omega.{arith}
 use borrow.Author.Tests.{ltb-true, ltb-false, eqb-false, not-false}
-use mathlib.Core.Path.{◌≡◌, refl, ◌∙◌, sym, ap, subst}
-use mathlib.Core.Bool.{true, false, not}
-use mathlib.Core.List.{List, []}
-use lib.ListN.{length, get_or}
+use mathlib.Core.Path.{◌≡◌, sym, subst}
+use mathlib.Core.Bool.{not}
+use mathlib.Core.List.{List}
 use lib.Dec.{ltb, eqb}
-use Rattle.numbers.specs.Outcome.{Outcome, gives, pick, and_then, within, outside_of}
-use Rattle.numbers.specs.Bytes.{part}
-use Rattle.numbers.proofs.Outcomes.{by_test, Each, given, refused, each_refuse, each_pick, each_then, each_of, each_if, each_within}
-use Rattle.framing.specs.Limits.{out_of_range}
+use Rattle.numbers.specs.Outcome.{gives}
+use Rattle.numbers.proofs.Outcomes.{by_test, Each, given, each_refuse, each_pick, each_then, each_of, each_if}
 use Rattle.framing.specs.Spans.{Spans}
 use Rattle.bodies.specs.Utf8.{utf8}
-use Rattle.stepping.specs.Items.{Item, finish, marker, value, field}
-use Rattle.stepping.specs.declared.cursor.Rules.TheVariants.{Stream, Sequence, Fields}
-use Rattle.symbols.specs.SystemTexts.{system_texts, system_bytes, text_start, same_bytes}
-use Rattle.symbols.specs.Turns.{step_all}
-use Rattle.symbols.specs.Text.{is_typed, Text, unknown, own, system, system_text, Own, no_list, listed, entry_text, on_entry, own_text, text_in, ruling_at, own_list, symbols_at, text_of}
+use Rattle.stepping.specs.Items.{finish, marker, value, field}
+use Rattle.stepping.specs.declared.cursor.Rules.TheVariants.{Sequence}
+use Rattle.symbols.specs.SystemTexts.{system_bytes, text_start, same_bytes}
+use Rattle.symbols.specs.Text.{is_typed, system, system_text, Own, no_list, listed, entry_text, on_entry, own_text, text_in, symbols_at, text_of}
 use Rattle.symbols.specs.TextTheorems.{TextTold, nowhere, in_map, in_system, TextsTold}
 use Rattle.symbols.proofs.Answered.{Met, ValueMet, a_value}
 use Rattle.symbols.proofs.Stepping.{EachTurn, each_over, each_further, EachItem, each_all}

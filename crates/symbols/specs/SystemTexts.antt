@@ -1,6 +1,6 @@
 -- The change request A.7: the texts of the IDs 1 to 9, which a caller lends joined.
 -- Assumes nothing.
-use Rattle.std.specs.Prelude.{ℕ, ◌-◌, Bool, true, false, List, [], ◌∷◌, ◌++◌, length, take, eqb}
+use Rattle.std.specs.Prelude.{ℕ, Bool, true, false, List, [], ◌∷◌, ◌++◌, length, take, eqb}
 use Rattle.numbers.specs.Outcome.{pick}
 
 -- "IDs 1 to 9 are $ion, $ion_1_0, $ion_symbol_table, name, version, imports, symbols, max_id, $ion_shared_symbol_table"

@@ -12,7 +12,7 @@ use lib.Dec.{eqb, leb, ltb}
 use borrow.Author.Tests.{eq-eqb, ne_eqb, ltb-true, ltb-false}
 use Rattle.numbers.specs.Outcome.{Outcome, gives, refuses, and_then}
 use Rattle.numbers.specs.Answers.{Unsigned, Signed, var_uint, var_int}
-use Rattle.numbers.proofs.Outcomes.{by_case, by_test, Each, given, refused, each_then, each_pick, each_if}
+use Rattle.numbers.proofs.Outcomes.{by_case, by_test, Each, given, each_then, each_pick, each_if}
 use Rattle.timestamps.specs.Timestamp.{Values, before, after_value, fields_from, fields_of, with_decimal, with_values, with_offset, encoded, judged, timestamp}
 use Rattle.timestamps.specs.Private.Reading.{Filled, counted, fields_answer, magnitude_answer}
 use Rattle.numbers.specs.declared.refusal.Refusal.{Refusal}

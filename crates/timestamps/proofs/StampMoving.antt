@@ -2,19 +2,19 @@
 -- Assumes nothing.
 use Prim.Native.Nat.{ℕ, zero, suc, ◌+◌, ◌≤◌, ◌<◌}
 use native.Mathlib.Omega.{arith}
-use mathlib.Core.Path.{◌≡◌, refl, ◌∙◌, sym, ap, subst}
+use mathlib.Core.Path.{◌≡◌, refl, ◌∙◌, ap, subst}
 use mathlib.Core.List.{List, [], ◌∷◌}
 use lib.ListN.{length, get_or}
 use lib.Dec.{eqb, ltb}
 use borrow.Author.Tests.{lt-ltb, le-ltb, ltb-true, ltb-false}
 use Rattle.numbers.specs.Outcome.{Outcome, gives, refuses, outside_of}
-use Rattle.numbers.specs.Bytes.{part, Same}
-use Rattle.numbers.specs.Answers.{Unsigned, Signed, var_number, var_uint, var_int}
+use Rattle.numbers.specs.Bytes.{Same}
+use Rattle.numbers.specs.Answers.{Unsigned, Signed, var_number, var_int}
 use Rattle.numbers.proofs.Outcomes.{by_case, Each, given, each_then, each_pick, each_of}
 use Rattle.numbers.proofs.Meaning.{var_int_at, var_uint_at, var_uint_bounded}
-use Rattle.numbers.proofs.Moving.{Moved, given_on, refused_on, moved_then, moved_pick, same_moved, moved_unsigned, moved_signed, part_moved, var_uint_moved, var_int_moved}
+use Rattle.numbers.proofs.Moving.{Moved, given_on, refused_on, moved_then, moved_pick, same_moved, part_moved, var_uint_moved, var_int_moved}
 use Rattle.bodies.specs.Decimal.{Split, decimal, DecimalMeaning, empty, split, outside, cut_short, too_long, moved_split, moved_decimal}
-use Rattle.timestamps.specs.Timestamp.{Values, before, after_value, fields_from, fields_of, Encoded, with_fraction, with_decimal, with_values, with_offset, encoded, judged, timestamp}
+use Rattle.timestamps.specs.Timestamp.{Values, before, after_value, fields_from, fields_of, Encoded, with_fraction, with_decimal, with_values, with_offset, encoded, timestamp}
 use Rattle.timestamps.specs.TimestampMeaning.{moved_encoded, TimestampsMoved, TimestampsLocal}
 use Rattle.timestamps.specs.declared.timestamp.Offset.{Offset}
 use Rattle.timestamps.specs.declared.timestamp.Fields.{Fields}

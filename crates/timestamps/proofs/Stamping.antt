@@ -3,26 +3,25 @@
 use Prim.Native.Nat.{ℕ, zero, suc, ◌+◌, ◌-◌, ◌^◌, ◌≤◌, ◌<◌}
 use native.Mathlib.Omega.{arith}
 use mathlib.Core.Path.{◌≡◌, refl, ◌∙◌, sym, ap, subst}
-use mathlib.Core.Logic.{◌⊎◌, inl, inr}
+use mathlib.Core.Logic.{inl, inr}
 use mathlib.Core.Bool.{Bool, true, false, true≢false}
 use mathlib.Core.List.{List, [], ◌∷◌}
 use lib.IntN.{nat_abs}
-use lib.ListN.{length, get_or}
-use lib.Dec.{eqb, leb, ltb}
+use lib.ListN.{length}
+use lib.Dec.{eqb, ltb}
 use borrow.Author.Tests.{eq-eqb, ne_eqb, eqb-true, eqb-false, ltb-true, ltb-false, lt-ltb, le-ltb, leb-true, leb-false, lt-leb}
-use Rattle.numbers.specs.Format.{NumberAt, of_digits, var_uint_of, var_int_negative, var_int_magnitude, int_negative, int_magnitude}
-use Rattle.numbers.specs.Outcome.{Outcome, gives, refuses, pick, refuse_if, and_then, outside_of}
+use Rattle.numbers.specs.Format.{NumberAt, of_digits, var_uint_of, var_int_negative, var_int_magnitude}
+use Rattle.numbers.specs.Outcome.{Outcome, gives, refuses, and_then}
 use Rattle.numbers.specs.Bytes.{part}
-use Rattle.numbers.specs.Answers.{Unsigned, Signed, unsigned, signed, var_uint, var_int}
-use Rattle.numbers.specs.Meaning.{NumberMeaning, reads as number_read, outside as number-outside, cut_short as number_cut, too_long as number-long, IntMeaning}
+use Rattle.numbers.specs.Answers.{Unsigned, Signed, unsigned, signed}
+use Rattle.numbers.specs.Meaning.{NumberMeaning, reads as number_read, outside as number-outside, cut_short as number_cut, too_long as number-long}
 use Rattle.numbers.proofs.Outcomes.{by_test, by_case, by_refusal, within_part}
 use Rattle.numbers.proofs.Meaning.{var-uint-sound, var-int-sound, var-uint-complete, var-int-complete}
 use Rattle.numbers.proofs.Parts.{part_none}
-use Rattle.bodies.specs.Decimal.{Split, zero_at, decimal, DecimalMeaning, empty, split, outside as decimal-outside, cut_short as decimal-cut, too_long as decimal-long, integer, var_int_of}
-use Rattle.bodies.specs.Decimal.{Worth as DecimalWorth}
+use Rattle.bodies.specs.Decimal.{Split, zero_at, decimal, DecimalMeaning, empty, split, outside as decimal-outside, cut_short as decimal-cut, too_long as decimal-long, integer}
 use Rattle.timestamps.specs.Timestamp.{Values, before, after_value, fields_from, fields_of, Encoded, with_fraction, with_decimal, with_values, with_offset, encoded, out_of_range}
 use Rattle.timestamps.specs.Timestamp.{precision_of, offset_of, stamp_of, ranged, hour_alone, too_wide, judged, timestamp}
-use Rattle.timestamps.specs.TimestampMeaning.{VarUIntsAt, none, one, FieldsAt, absent_fraction, FractionAt, no_fraction, fraction_there, Encodes, Within, Reaches, OffsetIs, negative_zero, no_hour, west, east, Worth}
+use Rattle.timestamps.specs.TimestampMeaning.{VarUIntsAt, none, one, FieldsAt, absent_fraction, FractionAt, no_fraction, fraction_there, Encodes, Reaches, OffsetIs, negative_zero, no_hour, west, east, Worth}
 use Rattle.timestamps.specs.TimestampMeaning.{to_year, to_month, to_day, to_minute, to_second, to_fraction, Cut, TooLong, FieldNext, the_year, another, TimestampMeaning, reads, no_minute, numbers_too_wide, fields_out_of_range, outside}
 use Rattle.timestamps.specs.TimestampMeaning.{offset_cut, offset_long, field_cut, field_long, exponent_cut, exponent_long, TimestampsSound, TimestampsComplete}
 use Rattle.timestamps.specs.declared.timestamp.Offset.{Offset}

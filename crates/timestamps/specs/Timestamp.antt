@@ -1,6 +1,6 @@
 -- A timestamp's body: the Ion document's "6: timestamp", and what reading it answers by paper 02's A.4.
 -- Assumes nothing.
-use Rattle.std.specs.Prelude.{ℕ, zero, suc, ◌+◌, ◌-◌, ◌*◌, ◌^◌, Bool, true, false, List, [], ◌∷◌, length, get_or, eqb, leb, ltb}
+use Rattle.std.specs.Prelude.{ℕ, zero, suc, ◌+◌, ◌-◌, ◌^◌, Bool, true, false, List, [], ◌∷◌, length, get_or, eqb, leb, ltb}
 use Rattle.numbers.specs.Format.{of_digits}
 use Rattle.numbers.specs.Outcome.{Outcome, gives, pick, refuse_if, and_then}
 use Rattle.numbers.specs.Bytes.{part}

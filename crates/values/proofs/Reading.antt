@@ -1,23 +1,21 @@
 -- A value that an entry frames, and the part that a reading of it gives, lie in the slice.
 -- Assumes nothing.
-use Prim.Native.Nat.{ℕ, ◌-◌, ◌≤◌, ◌<◌}
+use Prim.Native.Nat.{ℕ, ◌-◌, ◌≤◌}
 use native.Mathlib.Omega.{arith}
-use mathlib.Core.Path.{◌≡◌, refl}
 use mathlib.Core.Bool.{Bool, not}
 use mathlib.Core.List.{List}
-use lib.ListN.{length, get_or}
+use lib.ListN.{length}
 use lib.Dec.{ltb, eqb}
-use Rattle.numbers.specs.Outcome.{Outcome, gives, refuses, pick}
+use Rattle.numbers.specs.Outcome.{Outcome, gives}
 use Rattle.numbers.proofs.Outcomes.{Each, given, each_refuse, each_pick, each_then, each_map, refused}
 use Rattle.framing.specs.Limits.{out_of_range}
 use Rattle.framing.specs.Spans.{Spans}
-use Rattle.framing.specs.Answers.{peeked_descriptor, value_at, read_value}
-use Rattle.framing.proofs.Bounds.{PeekedAt, peeked_each, Ordered, read_value_each, value_each}
+use Rattle.framing.specs.Answers.{read_value}
+use Rattle.framing.proofs.Bounds.{peeked_each, value_each}
 use Rattle.bodies.specs.Utf8.{utf8}
 use Rattle.bodies.specs.Magnitude.{significant_from}
-use Rattle.bodies.proofs.Leading.{Begins, significant_begins}
-use Rattle.values.specs.Scalars.{value_in, type_of, code_of, Scalar, null, bool, int, float, decimal, timestamp, symbol, string, clob, blob, container, null_of, bool_of, positive_of, negative_of, float_of, symbol_of, string_of, typed_of, scalar_of, read_scalar, span_of}
-use Rattle.values.specs.declared.value.Span.{Span}
+use Rattle.bodies.proofs.Leading.{significant_begins}
+use Rattle.values.specs.Scalars.{value_in, type_of, code_of, Scalar, int, bool_of, positive_of, negative_of, float_of, symbol_of, string_of, typed_of, scalar_of, read_scalar, span_of}
 
 pub record InSlice (s : List ℕ) (v : Spans) : Type 0 where
   pub order : v.body ≤ v.end

@@ -1,24 +1,23 @@
 -- A value is what a step in a sequence answers where it stands: but for pads, which a step passes, at a byte that begins no value both are refused alike.
 -- Assumes nothing.
-use Prim.Native.Nat.{ℕ, ◌/◌, ◌%◌, ◌≤◌, ◌<◌}
+use Prim.Native.Nat.{ℕ, ◌≤◌, ◌<◌}
 use native.Mathlib.Omega.{arith}
 use borrow.Author.Tests.{eq-eqb, ne_eqb}
-use mathlib.Core.Path.{◌≡◌, refl, ◌∙◌, sym, ap, subst}
+use mathlib.Core.Path.{◌≡◌, refl, ◌∙◌, sym, ap}
 use mathlib.Core.Bool.{true, false}
 use mathlib.Core.List.{List}
 use lib.ListN.{length, get_or}
-use lib.Dec.{eqb}
 use Rattle.numbers.specs.Outcome.{Outcome, gives, refuses, and_then, outside_of}
 use Rattle.numbers.specs.Descriptor.{descriptor_of}
 use Rattle.numbers.specs.declared.type_descriptor.TypeDescriptor.{TypeDescriptor}
-use Rattle.numbers.proofs.Outcomes.{inside, then_same, then_then, then_like}
-use Rattle.framing.specs.Answers.{peeked_descriptor, is_pad, Frame, value_at, value_without_annotations, as_valued, frame_at, read_value, read_frame}
+use Rattle.numbers.proofs.Outcomes.{then_same, then_then}
+use Rattle.framing.specs.Answers.{peeked_descriptor, is_pad, value_at, value_without_annotations, as_valued, frame_at, read_value, read_frame}
 use Rattle.framing.specs.Limits.{out_of_range}
 use Rattle.framing.specs.Spans.{Spans}
-use Rattle.framing.proofs.Bounds.{PeekedAt, peeked_each}
-use Rattle.framing.proofs.Nibbles.{PadByte, pad_byte, no_pad_byte}
+use Rattle.framing.proofs.Bounds.{peeked_each}
+use Rattle.framing.proofs.Nibbles.{pad_byte, no_pad_byte}
 use Rattle.stepping.specs.Items.{Item, value}
-use Rattle.stepping.specs.Answers.{Tile, hand, as_tile, framed_at, tile_at, Found, stop, step_of}
+use Rattle.stepping.specs.Answers.{Tile, hand, as_tile, framed_at, tile_at, stop, step_of}
 use Rattle.stepping.specs.Private.Tiles.{handed}
 use Rattle.stepping.specs.declared.cursor.Rules.TheVariants.{Sequence}
 use Rattle.stepping.proofs.PadSkipping.{answered, answer_is}

@@ -1,5 +1,5 @@
 -- What the scalar reading says of a value's bytes, by the Ion document's "Typed Value Formats", the Unicode Standard and IEEE 754: one case for each
--- answer and for each refusal of its own. What is answered is what the bytes mean, and what they mean is what is answered. `scalars-meant` of
+-- answer and for each refusal of its own. What is answered is what the bytes mean, and what they mean is what is answered. `scalars_meant` of
 -- proofs/Meanings.antt.
 -- Assumes nothing.
 use Rattle.std.specs.Prelude.{ℕ, ◌-◌, ◌^◌, ◌≤◌, ◌<◌, ◌≡◌, true, false, List, get_or}

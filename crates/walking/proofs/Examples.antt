@@ -10,7 +10,7 @@ use Rattle.framing.specs.Answers.{peeked_descriptor, length_at, value_code, bad_
 use Rattle.stepping.specs.Items.{finish, value}
 use Rattle.stepping.specs.Answers.{framed_at, tile_at, skip_pads, found, step_of}
 use Rattle.values.specs.Scalars.{is_container}
-use Rattle.walking.specs.Walk.{limits_out, Visit, visit, walk_of, whole_walk}
+use Rattle.walking.specs.Walk.{limits_out, visit, walk_of, whole_walk}
 
 -- a list in a list: B1 B0
 abbrev listed : List ℕ

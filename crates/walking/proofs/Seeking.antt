@@ -17,10 +17,8 @@ use Rattle.stepping.specs.Leaving.{is_last}
 use Rattle.stepping.specs.Read.{item_read}
 use Rattle.stepping.specs.declared.cursor.Item.{Item as ItemEnum}
 use Rattle.stepping.specs.declared.cursor.Item.TheVariants.{End, Marker, Value, Field, Refused}
-use Rattle.stepping.specs.contracts.cursor.Item.{the_type}
 use Rattle.stepping.proofs.Places.{a_marker, a_value, a_field}
 use Rattle.stepping.proofs.Moves.{Moves, ends, hands, stops, moves, moves_end}
-use denote.Enum.Declared.{tag_of}
 use Rattle.walking.specs.Walk.{limits_out, Visit, visit}
 use Rattle.walking.specs.Calls.{end_at, rules_at, or_above, seek, moved_to, barred, visit_of}
 use Rattle.walking.specs.Theorems.{DepthBound}

@@ -1,5 +1,5 @@
--- What holds of the walk's calls. The proofs: `exact` and `never-outside` of proofs/Exact.antt, `length-bound` of proofs/Ending.antt, `limits-range` of
--- proofs/Depths.antt, `visit-depth` of proofs/Seeking.antt.
+-- What holds of the walk's calls. The proofs: `exact` and `never_outside` of proofs/Exact.antt, `length_bound` of proofs/Ending.antt, `limits-range` of
+-- proofs/Depths.antt, `visit_depth` of proofs/Seeking.antt.
 -- Assumes nothing.
 use Rattle.std.specs.Prelude.{ℕ, suc, ◌≤◌, ◌≡◌, false, List, length, take}
 use Rattle.numbers.specs.Outcome.{refuses}

@@ -2,7 +2,6 @@
 use mathlib.Core.Bool.{false}
 use mathlib.Core.Path.{◌≡◌, refl, ◌∙◌, sym}
 use borrow.Author.Tests.{eq-eqb, ne_eqb, lt-ltb, le-ltb}
-use borrow.Author.Rules.{rules}
 use Rattle.framing.specs.Limits.{out_of_range}
 use Rattle.reader.specs.Reading.{step_through}
 use Rattle.reader.proofs.step_through.Goals as goal

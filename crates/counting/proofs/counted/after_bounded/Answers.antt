@@ -1,5 +1,4 @@
 -- `after_bounded` meets its contract: each case of an answer leaves its cursor.
-use borrow.Author.Rules.{rules}
 use mathlib.Core.Path.{◌∙◌, sym, ap}
 use Rattle.counting.specs.Bounded.{bounded_after}
 use Rattle.counting.specs.Read.{bounded_read}

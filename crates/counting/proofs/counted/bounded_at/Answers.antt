@@ -1,12 +1,10 @@
 -- `bounded_at` meets its contract: what is answered from each position on, past as many pads as are left, with the pads passed before it, is what is answered
 -- from the first.
-use borrow.Author.Rules.{rules}
-use borrow.Author.Tests.{not-true, not-false}
-use Prim.Native.Nat.{ℕ, suc, ◌+◌, ◌-◌, ◌≤◌, ◌<◌}
+use Prim.Native.Nat.{ℕ, suc, ◌+◌, ◌-◌, ◌<◌}
 use native.Mathlib.Omega.{arith}
 use mathlib.Core.Path.{◌≡◌, ◌∙◌, sym, ap}
 use mathlib.Core.Bool.{true, false}
-use lib.ListN.{length, get_or}
+use lib.ListN.{get_or}
 use Rattle.numbers.specs.Outcome.{Outcome, gives, and_then, outside_of}
 use Rattle.numbers.specs.Answers.{Unsigned}
 use Rattle.numbers.specs.Read.{refusal_read}
@@ -24,7 +22,7 @@ use Rattle.stepping.specs.Runs.{cursor}
 use Rattle.stepping.proofs.Plain.{name_in, named_stepped}
 use Rattle.stepping.proofs.Places.{pad_ends}
 use Rattle.counting.specs.Pads.{begins_pad}
-use Rattle.counting.specs.Bounded.{bounded_in, bounded}
+use Rattle.counting.specs.Bounded.{bounded_in}
 use Rattle.counting.proofs.PadTiles.{as_skip, pad_tile, refused_tile, no-pad}
 use Rattle.counting.proofs.Finding.{answer_tile}
 use Rattle.counting.proofs.Bounding.{add_pads, add_none, add_one_more, next_named, next_refused, bound_pad, bound_more, bound_stop, bound_end, bounded_unranged, bounded_outside, bounded_none, bounded-in, reach_begun, reach_ended, reach_more}

@@ -1,5 +1,4 @@
 -- `count_at` meets its contract: with a bound that no part can meet, the bounded step is the step.
-use borrow.Author.Rules.{rules}
 use Prim.Native.Nat.{ℕ}
 use native.Mathlib.Omega.{arith}
 use mathlib.Core.Path.{◌≡◌, ◌∙◌, sym, ap}

@@ -1,5 +1,4 @@
 -- `ids_begun` meets its contract: it is the count of names in a struct's body.
-use borrow.Author.Rules.{rules}
 use mathlib.Core.Path.{ap}
 use Rattle.counting.specs.Counted.{Counted}
 use Rattle.counting.proofs.counted.ids_begun.Goals as goal

@@ -1,6 +1,5 @@
 -- `next_bounded` meets its contract: the answer settles the cursor.
-use borrow.Author.Rules.{rules}
-use mathlib.Core.Path.{◌≡◌, ◌∙◌, ap}
+use mathlib.Core.Path.{ap}
 use Rattle.counting.specs.Bounded.{Bounded, bounded_after, bounded_step_of}
 use Rattle.counting.proofs.counted.next_bounded.Goals as goal
 

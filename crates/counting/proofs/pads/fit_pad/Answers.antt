@@ -1,5 +1,4 @@
 -- `fit_pad` meets its contract: its test is the definition's.
-use borrow.Author.Rules.{rules}
 use borrow.Author.Tests.{le-ltb, lt-ltb}
 use Rattle.framing.specs.Answers.{padded}
 use Rattle.counting.proofs.pads.fit_pad.Goals as goal

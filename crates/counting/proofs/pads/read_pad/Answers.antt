@@ -1,5 +1,4 @@
 -- `read_pad` meets its contract: the length first, by the descriptor or by a VarUInt, then whether the pad fits.
-use borrow.Author.Rules.{rules}
 use Prim.Native.Nat.{ℕ, ◌+◌}
 use mathlib.Core.Path.{◌≡◌, ◌∙◌, sym, ap}
 use Rattle.numbers.specs.Outcome.{Outcome, and_then}

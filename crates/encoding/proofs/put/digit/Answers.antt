@@ -1,8 +1,8 @@
 -- `digit` meets its contract: behind each turn what is left is the number by that power of 128.
-use Prim.Native.Nat.{ℕ, ◌+◌, ◌-◌, ◌/◌, ◌%◌, ◌^◌, ◌≤◌}
+use Prim.Native.Nat.{ℕ, ◌/◌, ◌%◌, ◌^◌}
 use native.Mathlib.Omega.{arith}
 use native.Mathlib.Nat.{div-one}
-use mathlib.Core.Path.{◌≡◌, refl, ◌∙◌, sym, ap}
+use mathlib.Core.Path.{◌≡◌, ◌∙◌, sym, ap}
 use Rattle.encoding.proofs.VarUInts.{next_power}
 use Rattle.encoding.proofs.put.digit.Goals as goal
 

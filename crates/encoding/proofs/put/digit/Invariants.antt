@@ -1,9 +1,6 @@
 -- `digit` meets its contract: behind each turn what is left is the number by that power of 128.
-use Prim.Native.Nat.{ℕ, ◌+◌, ◌-◌, ◌/◌, ◌%◌, ◌^◌, ◌≤◌}
-use native.Mathlib.Omega.{arith}
-use native.Mathlib.Nat.{div-one}
-use mathlib.Core.Path.{◌≡◌, refl, ◌∙◌, sym, ap}
-use Rattle.encoding.proofs.VarUInts.{next_power}
+use Prim.Native.Nat.{◌-◌, ◌/◌, ◌^◌, ◌≤◌}
+use mathlib.Core.Path.{◌≡◌}
 use Rattle.encoding.proofs.put.digit.Given as goal
 
 abbrev pub invariant-loop-i : goal.invariant-loop-i

@@ -1,7 +1,6 @@
 -- `head_size` meets its contract, by the two cases of its definition.
-use borrow.Author.Rules.{rules}
 use native.Mathlib.Omega.{arith}
-use mathlib.Core.Path.{◌≡◌, ◌∙◌, sym, ap}
+use mathlib.Core.Path.{sym}
 use Rattle.encoding.proofs.VarUInts.{size_high}
 use Rattle.encoding.proofs.Heads.{head_short, head_long}
 use Rattle.encoding.proofs.put.head_size.Goals as goal

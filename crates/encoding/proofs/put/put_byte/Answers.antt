@@ -1,6 +1,5 @@
 -- `put_byte` meets its contract: past the buffer's end a store changes nothing.
-use borrow.Author.Rules.{rules}
-use mathlib.Core.Path.{◌≡◌, sym}
+use mathlib.Core.Path.{sym}
 use lib.Seq.{set_out}
 use Rattle.encoding.proofs.put.put_byte.Goals as goal
 

@@ -1,8 +1,7 @@
 -- `put_var_uint` meets its contract: the fewest bytes are one and those that go before the last.
 use Prim.Native.Nat.{ℕ, ◌-◌}
 use native.Mathlib.Omega.{arith}
-use borrow.Author.Rules.{rules}
-use mathlib.Core.Path.{◌≡◌, ◌∙◌, ap}
+use mathlib.Core.Path.{◌∙◌, ap}
 use lib.Seq.{sets}
 use Rattle.encoding.specs.Fields.{var_uint_in, var_uint_bytes}
 use Rattle.encoding.proofs.VarUInts.{size_low}

@@ -1,12 +1,11 @@
 -- `put_var_uint_in` meets its contract: with the bytes that are left stored from here, the buffer is what it is to be.
-use Prim.Native.Nat.{ℕ, zero, suc, ◌+◌, ◌-◌, ◌/◌, ◌%◌, ◌^◌, ◌≤◌, ◌<◌}
+use Prim.Native.Nat.{ℕ, zero, suc, ◌+◌, ◌-◌, ◌/◌, ◌%◌, ◌^◌, ◌<◌}
 use native.Mathlib.Omega.{arith}
 use native.Mathlib.Numerals.{add-one}
 use native.Mathlib.Nat.{mod-lt}
-use borrow.Author.Rules.{rules}
 use mathlib.Core.Path.{◌≡◌, refl, ◌∙◌, sym, ap}
-use mathlib.Core.List.{List, [], ◌∷◌}
-use lib.ListN.{length, get_or, set, length-set}
+use mathlib.Core.List.{[], ◌∷◌}
+use lib.ListN.{length, set, length-set}
 use lib.Seq.{sets}
 use Rattle.encoding.specs.Fields.{var_uint_in}
 use Rattle.encoding.proofs.Stores.{sets_out}

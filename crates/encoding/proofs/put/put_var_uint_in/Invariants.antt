@@ -1,15 +1,8 @@
 -- `put_var_uint_in` meets its contract: with the bytes that are left stored from here, the buffer is what it is to be.
-use Prim.Native.Nat.{ℕ, zero, suc, ◌+◌, ◌-◌, ◌/◌, ◌%◌, ◌^◌, ◌≤◌, ◌<◌}
-use native.Mathlib.Omega.{arith}
-use native.Mathlib.Numerals.{add-one}
-use native.Mathlib.Nat.{mod-lt}
-use borrow.Author.Rules.{rules}
-use mathlib.Core.Path.{◌≡◌, refl, ◌∙◌, sym, ap}
-use mathlib.Core.List.{List, [], ◌∷◌}
-use lib.ListN.{length, get_or, set, length-set}
+use mathlib.Core.Path.{◌≡◌}
+use lib.ListN.{length}
 use lib.Seq.{sets}
 use Rattle.encoding.specs.Fields.{var_uint_in}
-use Rattle.encoding.proofs.Stores.{sets_out}
 use Rattle.encoding.proofs.put.put_var_uint_in.Given as goal
 
 abbrev pub invariant-loop-left : goal.invariant-loop-left

@@ -1,5 +1,4 @@
 -- `read_annotation` meets its contract: the end is tested first, and an ID is a VarUInt.
-use borrow.Author.Rules.{rules}
 use borrow.Author.Tests.{eq-eqb, ne_eqb}
 use mathlib.Core.Path.{◌∙◌, sym}
 use Rattle.numbers.specs.Read.{var_uint_read}

@@ -1,5 +1,4 @@
 -- `check_wrapper` meets its contract: its five tests are the definition's, in the same order.
-use borrow.Author.Rules.{rules}
 use borrow.Author.Tests.{le-ltb, lt-ltb, eq-eqb, ne_eqb}
 use native.Mathlib.Omega.{arith}
 use mathlib.Core.Path.{◌≡◌}

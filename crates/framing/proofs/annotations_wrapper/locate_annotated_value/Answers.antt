@@ -1,5 +1,4 @@
 -- `locate_annotated_value` meets its contract: the wrapper, and then what stands in it.
-use borrow.Author.Rules.{rules}
 use mathlib.Core.Path.{◌∙◌}
 use Rattle.numbers.proofs.Outcomes.{then_by}
 use Rattle.framing.specs.Private.Located.{inner_at, location_in_wrapper}

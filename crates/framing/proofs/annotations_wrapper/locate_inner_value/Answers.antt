@@ -1,5 +1,4 @@
 -- `locate_inner_value` meets its contract: what stands there is looked at, and then 27, 28 and 22 are tested.
-use borrow.Author.Rules.{rules}
 use mathlib.Core.Path.{◌∙◌, sym}
 use Rattle.numbers.proofs.Outcomes.{then_by}
 use Rattle.framing.specs.Answers.{Wrapping}

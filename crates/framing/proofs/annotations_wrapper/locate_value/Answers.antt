@@ -1,5 +1,4 @@
 -- `locate_value` meets its contract: in a wrapper, or by itself where the byte begins a value.
-use borrow.Author.Rules.{rules}
 use mathlib.Core.Path.{◌∙◌, sym}
 use Rattle.framing.specs.Private.Located.{location_at}
 use Rattle.framing.proofs.annotations_wrapper.locate_value.Goals as goal

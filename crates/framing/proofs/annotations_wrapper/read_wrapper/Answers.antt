@@ -1,5 +1,4 @@
 -- `read_wrapper` meets its contract: the combined length, the annotations' length, then the tests.
-use borrow.Author.Rules.{rules}
 use Prim.Native.Nat.{◌+◌}
 use native.Mathlib.Omega.{arith}
 use mathlib.Core.Path.{◌∙◌, sym, ap}

@@ -1,5 +1,4 @@
 -- `fit_short` meets its contract: its test is the definition's, and its body begins near the descriptor.
-use borrow.Author.Rules.{rules}
 use borrow.Author.Tests.{le-ltb, lt-ltb, le-leb, eq-eqb}
 use mathlib.Core.Path.{refl}
 use Rattle.framing.specs.Answers.{fitting}

@@ -1,5 +1,4 @@
 -- `fit_value` meets its contract: the value fits, and is as long as its wrapper says.
-use borrow.Author.Rules.{rules}
 use borrow.Author.Tests.{le-ltb, lt-ltb}
 use mathlib.Core.Path.{◌∙◌, sym}
 use Rattle.framing.specs.Private.Located.{fitted}

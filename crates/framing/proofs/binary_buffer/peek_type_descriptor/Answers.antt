@@ -1,5 +1,4 @@
 -- `peek_type_descriptor` meets its contract: its tests are the definition's.
-use borrow.Author.Rules.{rules}
 use native.Mathlib.Omega.{arith}
 use borrow.Author.Tests.{eq-eqb, ne_eqb}
 use mathlib.Core.Path.{◌≡◌, ◌∙◌, sym}

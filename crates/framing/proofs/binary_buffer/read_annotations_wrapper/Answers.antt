@@ -1,10 +1,7 @@
 -- `read_annotations_wrapper` meets its contract: 22 where no wrapper begins, then the wrapper.
-use borrow.Author.Rules.{rules}
-use borrow.Author.Tests.{not-true, not-false}
 use mathlib.Core.Bool.{false}
 use mathlib.Core.Path.{◌≡◌, ◌∙◌, sym, ap}
 use Rattle.numbers.specs.Outcome.{gives, refuses}
-use Rattle.numbers.specs.Bytes.{part}
 use Rattle.numbers.specs.declared.type_descriptor.TypeDescriptor.{TypeDescriptor}
 use Rattle.numbers.proofs.Outcomes.{then_by, each_of}
 use Rattle.framing.specs.Answers.{wrapper_at, wrapper_or_none, read_wrapper}

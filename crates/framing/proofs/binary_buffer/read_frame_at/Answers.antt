@@ -1,5 +1,4 @@
 -- `read_frame_at` meets its contract: a pad, or else a value.
-use borrow.Author.Rules.{rules}
 use mathlib.Core.Path.{◌∙◌, sym}
 use Rattle.numbers.proofs.Outcomes.{then_by}
 use Rattle.framing.specs.Answers.{as_padding, as_valued, frame_at}

@@ -1,5 +1,4 @@
 -- `read_located_value` meets its contract: the length first, then whether the value fits.
-use borrow.Author.Rules.{rules}
 use native.Mathlib.Omega.{arith}
 use mathlib.Core.Path.{◌∙◌, sym, ap}
 use lib.ListN.{get_or}

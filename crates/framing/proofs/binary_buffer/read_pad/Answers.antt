@@ -1,12 +1,9 @@
 -- `read_pad` meets its contract: the length first, then whether the pad fits.
-use borrow.Author.Rules.{rules}
 use Prim.Native.Nat.{◌+◌}
 use native.Mathlib.Omega.{arith}
 use borrow.Author.Tests.{le-ltb, lt-ltb}
 use mathlib.Core.Path.{◌≡◌, ◌∙◌, sym, ap}
-use lib.ListN.{length}
 use Rattle.numbers.specs.Outcome.{gives}
-use Rattle.numbers.specs.Bytes.{part}
 use Rattle.numbers.proofs.Outcomes.{then_by, each_of}
 use Rattle.framing.specs.Answers.{padded, pad_at, Sized}
 use Rattle.framing.specs.Read.{length_read}

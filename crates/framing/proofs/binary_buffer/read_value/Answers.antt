@@ -1,9 +1,7 @@
 -- `read_value` meets its contract: the descriptor is looked at, and then the value read.
-use borrow.Author.Rules.{rules}
 use mathlib.Core.Bool.{false}
 use mathlib.Core.Path.{◌≡◌, ◌∙◌, sym, ap}
 use Rattle.numbers.specs.Outcome.{gives}
-use Rattle.numbers.specs.Bytes.{part}
 use Rattle.numbers.specs.declared.type_descriptor.TypeDescriptor.{TypeDescriptor}
 use Rattle.numbers.proofs.Outcomes.{then_by, each_of}
 use Rattle.framing.specs.Answers.{value_at, read_value}

@@ -1,5 +1,4 @@
 -- `read_value_at` meets its contract: where the value stands, and then the value.
-use borrow.Author.Rules.{rules}
 use mathlib.Core.Path.{◌∙◌, sym, ap}
 use native.Mathlib.Omega.{arith}
 use Rattle.numbers.proofs.Outcomes.{then_by, each_of}

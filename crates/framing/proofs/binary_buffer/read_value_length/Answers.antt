@@ -1,8 +1,6 @@
 -- `read_value_length` meets its contract: 22 where no value begins, then its length.
-use borrow.Author.Rules.{rules}
 use mathlib.Core.Path.{◌≡◌, ◌∙◌, sym, ap}
 use Rattle.numbers.specs.Outcome.{gives}
-use Rattle.numbers.specs.Bytes.{part}
 use Rattle.numbers.specs.declared.type_descriptor.TypeDescriptor.{TypeDescriptor}
 use Rattle.numbers.proofs.Outcomes.{then_by, each_of}
 use Rattle.framing.specs.Answers.{length_or_none, read_value_length}

@@ -1,9 +1,7 @@
 -- `short_length` meets its contract: the descriptor tells the length, or a short VarUInt behind it does; of nothing else is a short value without a wrapper
 -- said.
-use borrow.Author.Rules.{rules}
-use Prim.Native.Nat.{ℕ, ◌+◌}
+use Prim.Native.Nat.{◌+◌}
 use native.Mathlib.Omega.{arith}
-use borrow.Author.Tests.{not-true, not-false}
 use mathlib.Core.Path.{◌≡◌, ◌∙◌, sym, ap}
 use mathlib.Core.Bool.{true}
 use lib.ListN.{get_or}

@@ -1,9 +1,7 @@
 -- `short_value` meets its contract: behind a byte that begins a value, a body of the length that is known is the value's if it fits; nothing else is a value
 -- without a wrapper and with a short length field.
-use borrow.Author.Rules.{rules}
 use Prim.Native.Nat.{ℕ, ◌≤◌, ◌<◌}
 use native.Mathlib.Omega.{arith}
-use borrow.Author.Tests.{not-true}
 use mathlib.Core.Path.{◌≡◌, ◌∙◌, sym, ap, subst}
 use lib.ListN.{length, get_or}
 use Rattle.framing.specs.Answers.{value_without_annotations, read_value}

@@ -1,5 +1,4 @@
 -- `check_length` meets its contract: each test is the definition's.
-use borrow.Author.Rules.{rules}
 use mathlib.Core.Path.{◌∙◌, sym}
 use Rattle.framing.specs.Answers.{length_tests}
 use Rattle.framing.proofs.encoded_value.check_length.Goals as goal

@@ -1,5 +1,4 @@
 -- `has_inline_length` meets its contract: the entry of a type code has the bit of a length code where the two tell a length.
-use borrow.Author.Rules.{rules}
 use native.Mathlib.Omega.{arith}
 use borrow.Author.Tests.{lt-ltb}
 use lib.Dec.{ltb}

@@ -1,9 +1,7 @@
 -- `has_length_field` meets its contract: by a bit of a number with length code 14, and else in an ordered struct.
-use borrow.Author.Rules.{rules}
 use native.Mathlib.Omega.{arith}
 use borrow.Author.Tests.{ne_eqb}
-use mathlib.Core.Path.{◌≡◌, ◌∙◌, sym, ap}
-use Prim.Native.Nat.{ℕ}
+use mathlib.Core.Path.{◌∙◌, sym, ap}
 use Rattle.framing.specs.Private.InlineLengths.{has_length_field}
 use Rattle.framing.proofs.InlineLengths.{bit_length_field, ordered_length_field, high_length_field}
 use Rattle.framing.proofs.encoded_value.has_length_field.Goals as goal

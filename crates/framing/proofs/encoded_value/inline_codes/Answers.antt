@@ -1,5 +1,4 @@
 -- `inline_codes` meets its contract: one computed test over the table gives its rule at the type code.
-use borrow.Author.Rules.{rules}
 use Rattle.numbers.specs.Descriptor.{kind_of}
 use Rattle.numbers.proofs.Table.{entry}
 use Rattle.framing.specs.Answers.{value_code, bad_float, short_timestamp}

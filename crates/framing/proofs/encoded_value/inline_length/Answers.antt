@@ -1,5 +1,4 @@
 -- `inline_length` meets its contract: its tests are the definition's.
-use borrow.Author.Rules.{rules}
 use borrow.Author.Tests.{lt-ltb, le-ltb, eq-eqb, ne_eqb}
 use Rattle.framing.specs.Private.InlineLengths.{inline_length}
 use Rattle.framing.proofs.encoded_value.inline_length.Goals as goal

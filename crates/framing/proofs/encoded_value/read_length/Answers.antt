@@ -1,5 +1,4 @@
 -- `read_length` meets its contract: code 14 reads a VarUInt, and the others are the length.
-use borrow.Author.Rules.{rules}
 use borrow.Author.Tests.{eq-eqb, ne_eqb}
 use native.Mathlib.Omega.{arith}
 use mathlib.Core.Path.{◌≡◌}

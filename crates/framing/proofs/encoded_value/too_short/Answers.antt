@@ -1,5 +1,4 @@
 -- `too_short` meets its contract: two bytes are enough, and under that its tests are the definition's.
-use borrow.Author.Rules.{rules}
 use native.Mathlib.Omega.{arith}
 use borrow.Author.Tests.{le-ltb, ne_eqb}
 use mathlib.Core.Path.{◌≡◌, refl, ◌∙◌, sym}

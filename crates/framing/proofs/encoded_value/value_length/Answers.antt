@@ -1,5 +1,4 @@
 -- `value_length` meets its contract: a length that the descriptor tells is the one that is read; otherwise the length is read first, and tested by type after.
-use borrow.Author.Rules.{rules}
 use Prim.Native.Nat.{◌+◌}
 use mathlib.Core.Path.{◌≡◌, ◌∙◌, sym, ap}
 use mathlib.Core.Bool.{true}

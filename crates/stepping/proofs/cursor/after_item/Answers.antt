@@ -1,5 +1,4 @@
 -- `after_item` meets its contract: each arm is a case of `after`.
-use borrow.Author.Rules.{rules}
 use mathlib.Core.Path.{sym, ap}
 use Rattle.stepping.specs.Answers.{after}
 use Rattle.stepping.specs.Read.{item_read}

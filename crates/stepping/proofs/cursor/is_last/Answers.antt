@@ -1,5 +1,4 @@
 -- `is_last` meets its contract: an answer is the last where it leaves its caller nowhere.
-use borrow.Author.Rules.{rules}
 use mathlib.Core.Path.{◌∙◌, sym, ap}
 use mathlib.Core.Bool.{Bool, true, false}
 use Rattle.stepping.specs.Leaving.{on_left}

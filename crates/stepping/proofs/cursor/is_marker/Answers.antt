@@ -1,5 +1,4 @@
 -- `is_marker` meets its contract: each arm is the case of its rules.
-use borrow.Author.Rules.{rules}
 use Rattle.stepping.proofs.cursor.is_marker.Goals as goal
 
 pub returns-in-Stream : goal.returns-in-Stream

@@ -1,5 +1,4 @@
 -- `item_at` meets its contract: it is the step of whose name nothing is read.
-use borrow.Author.Rules.{rules}
 use mathlib.Core.Path.{◌∙◌}
 use Rattle.stepping.proofs.Naming.{answer_unread}
 use Rattle.stepping.proofs.cursor.item_at.Goals as goal

@@ -1,10 +1,8 @@
 -- `item_from` meets its contract: what is answered from each position on is what is answered from the first.
-use borrow.Author.Rules.{rules}
-use Prim.Native.Nat.{ℕ, ◌-◌, ◌≤◌, ◌<◌}
+use Prim.Native.Nat.{ℕ, ◌≤◌, ◌<◌}
 use native.Mathlib.Omega.{arith}
 use mathlib.Core.Path.{◌≡◌, refl, ◌∙◌, sym, ap}
 use mathlib.Core.Bool.{false}
-use lib.ListN.{length}
 use Rattle.numbers.specs.Outcome.{outside_of}
 use Rattle.numbers.specs.Answers.{Unsigned}
 use Rattle.numbers.proofs.Outcomes.{inside_order, inside_end}

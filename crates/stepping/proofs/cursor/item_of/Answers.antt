@@ -1,5 +1,4 @@
 -- `item_of` meets its contract: each arm is the case of its rules.
-use borrow.Author.Rules.{rules}
 use Rattle.stepping.proofs.cursor.item_of.Goals as goal
 
 pub returns-in-Stream : goal.returns-in-Stream

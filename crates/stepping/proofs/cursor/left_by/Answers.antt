@@ -3,7 +3,6 @@ use mathlib.Core.Path.{sym, ap}
 use Rattle.stepping.specs.Read.{item_read}
 use Rattle.stepping.specs.declared.cursor.Item.{Item as ItemEnum}
 use Rattle.stepping.specs.Leaving.{left_of}
-use borrow.Author.Rules.{rules}
 use Rattle.stepping.proofs.cursor.left_by.Goals as goal
 
 pub returns-in-Marker : goal.returns-in-Marker

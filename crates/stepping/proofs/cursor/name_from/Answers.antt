@@ -1,5 +1,4 @@
 -- `name_from` meets its contract: the name given, where it ends behind `at`, and else the one that is read.
-use borrow.Author.Rules.{rules}
 use borrow.Author.Tests.{lt-ltb, le-ltb}
 use Rattle.stepping.specs.Names.{name_from}
 use Rattle.stepping.proofs.cursor.name_from.Goals as goal

@@ -1,7 +1,6 @@
 -- `next_item` meets its contract: the answer settles the cursor.
 use Rattle.stepping.specs.Read.{item_read}
 use Rattle.stepping.proofs.PadSkipping.{step_is}
-use borrow.Author.Rules.{rules}
 use Rattle.stepping.proofs.cursor.next_item.Goals as goal
 
 pub returns : goal.returns

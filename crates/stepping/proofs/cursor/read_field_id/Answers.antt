@@ -1,9 +1,8 @@
 -- `read_field_id` meets its contract: the VarUInt, then 7 where nothing follows it.
-use borrow.Author.Rules.{rules}
 use Prim.Native.Nat.{◌≤◌}
 use native.Mathlib.Omega.{arith}
 use borrow.Author.Tests.{eq-eqb, ne_eqb}
-use mathlib.Core.Path.{◌≡◌, ◌∙◌, sym, ap}
+use mathlib.Core.Path.{◌∙◌, sym, ap}
 use Rattle.numbers.specs.Read.{var_uint_read}
 use Rattle.numbers.proofs.Outcomes.{then_by, each_of}
 use Rattle.numbers.proofs.Meaning.{var_uint_bounded}

@@ -1,6 +1,5 @@
 -- `read_ivm` meets its contract: its tests are the definition's.
-use borrow.Author.Rules.{rules}
-use borrow.Author.Tests.{le-ltb, lt-ltb, eq-eqb, ne_eqb, not-true, not-false}
+use borrow.Author.Tests.{le-ltb, lt-ltb, eq-eqb, ne_eqb}
 use mathlib.Core.Path.{◌∙◌, sym}
 use Rattle.stepping.specs.Answers.{marker_at}
 use Rattle.stepping.proofs.cursor.read_ivm.Goals as goal

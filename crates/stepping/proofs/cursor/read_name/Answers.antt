@@ -1,5 +1,4 @@
 -- `read_name` meets its contract: each arm is the case of its rules.
-use borrow.Author.Rules.{rules}
 use Rattle.stepping.proofs.cursor.read_name.Goals as goal
 
 pub returns-in-Stream : goal.returns-in-Stream

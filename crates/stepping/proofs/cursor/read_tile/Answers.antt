@@ -1,5 +1,4 @@
 -- `read_tile` meets its contract: a marker, or a name and what stands behind it.
-use borrow.Author.Rules.{rules}
 use mathlib.Core.Path.{◌∙◌, sym, ap}
 use Rattle.numbers.specs.Outcome.{Outcome, and_then}
 use Rattle.numbers.proofs.Outcomes.{then_by}

@@ -1,5 +1,4 @@
 -- `tile_of` meets its contract: each case of a frame is a tile.
-use borrow.Author.Rules.{rules}
 use mathlib.Core.Path.{ap}
 use Rattle.numbers.specs.Outcome.{Outcome, and_then}
 use Rattle.stepping.specs.Items.{Item}

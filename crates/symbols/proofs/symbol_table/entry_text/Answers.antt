@@ -1,6 +1,4 @@
 -- `entry_text` meets its contract: what isn't a string has no text, and bad UTF-8 is refused.
-use borrow.Author.Rules.{rules}
-use borrow.Author.Tests.{not-true, not-false}
 use mathlib.Core.Path.{◌≡◌, ◌∙◌, sym}
 use mathlib.Core.Bool.{true, false}
 use Rattle.framing.specs.Read.{spans_of}

@@ -1,6 +1,5 @@
 -- `is_table` meets its contract: a struct that isn't null, then its first annotation.
-use borrow.Author.Rules.{rules}
-use borrow.Author.Tests.{eq-eqb, ne_eqb, not-true, not-false}
+use borrow.Author.Tests.{eq-eqb, ne_eqb}
 use mathlib.Core.Path.{◌≡◌, ◌∙◌, sym, ap}
 use mathlib.Core.Bool.{Bool}
 use Rattle.numbers.specs.Outcome.{Outcome, gives, and_then}

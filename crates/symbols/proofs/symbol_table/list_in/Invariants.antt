@@ -1,19 +1,12 @@
 -- `list_in` meets its contract: what is answered from each field on is what is answered from the first.
-use borrow.Author.Rules.{rules}
-use Prim.Native.Nat.{ℕ, ◌-◌, ◌<◌, ◌≤◌}
-use native.Mathlib.Omega.{arith}
-use mathlib.Core.Path.{◌≡◌, refl, ◌∙◌, sym, ap}
+use Prim.Native.Nat.{◌-◌}
+use mathlib.Core.Path.{◌≡◌}
 use mathlib.Core.Bool.{Bool}
-use Rattle.stepping.specs.Answers.{answer_at}
 use Rattle.stepping.specs.declared.cursor.Rules.TheVariants.{Fields}
-use Rattle.symbols.specs.Turns.{meets, step_all}
+use Rattle.symbols.specs.Turns.{step_all}
 use Rattle.symbols.specs.Text.{table, SymbolsField, on_field, own_list}
-use Rattle.symbols.specs.Read.{own_read, symbols_read}
-use Rattle.symbols.specs.Private.Turned.{after_field_read}
+use Rattle.symbols.specs.Read.{own_read}
 use Rattle.symbols.specs.declared.symbols.OwnList.{OwnList}
-use Rattle.symbols.specs.declared.symbol_table.AfterField.{AfterField}
-use Rattle.symbols.proofs.Stepping.{steps_over, further_on, steps_further}
-use Rattle.symbols.proofs.Handlers.{field_follows}
 use Rattle.symbols.proofs.symbol_table.list_in.Given as goal
 
 abbrev kept : Bool → OwnList → SymbolsField

@@ -1,6 +1,4 @@
 -- `list_of` meets its contract: what isn't a list gives none.
-use borrow.Author.Rules.{rules}
-use borrow.Author.Tests.{not-true, not-false}
 use mathlib.Core.Path.{◌∙◌, sym}
 use Rattle.symbols.specs.Text.{list_of}
 use Rattle.symbols.proofs.symbol_table.list_of.Goals as goal

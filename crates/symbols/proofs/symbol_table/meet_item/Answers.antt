@@ -1,5 +1,4 @@
 -- `meet_item` meets its contract: each case of an answer, by its tests.
-use borrow.Author.Rules.{rules}
 use borrow.Author.Tests.{eq-eqb, ne_eqb, lt-ltb, le-ltb}
 use native.Mathlib.Omega.{arith}
 use Rattle.symbols.specs.Text.{on_stream}

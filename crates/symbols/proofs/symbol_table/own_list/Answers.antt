@@ -1,5 +1,4 @@
 -- `own_list` meets its contract: the system has no list.
-use borrow.Author.Rules.{rules}
 use Rattle.symbols.specs.Text.{own_list}
 use Rattle.symbols.proofs.symbol_table.own_list.Goals as goal
 

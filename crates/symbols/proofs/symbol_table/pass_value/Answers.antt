@@ -1,5 +1,4 @@
 -- `pass_value` meets its contract: a table rules behind itself.
-use borrow.Author.Rules.{rules}
 use mathlib.Core.Path.{◌≡◌, ◌∙◌, sym, ap}
 use Rattle.framing.specs.Read.{spans_of}
 use Rattle.symbols.specs.Text.{is_table, tabled}

@@ -1,13 +1,11 @@
 -- `ruling_at` meets its contract: what is answered from each item on is what is answered from the first.
-use borrow.Author.Rules.{rules}
-use Prim.Native.Nat.{ℕ, ◌-◌, ◌<◌, ◌≤◌}
 use native.Mathlib.Omega.{arith}
 use mathlib.Core.Path.{◌≡◌, refl, ◌∙◌, sym, ap}
 use Rattle.stepping.specs.Answers.{answer_at}
 use Rattle.stepping.specs.declared.cursor.Rules.TheVariants.{Stream}
-use Rattle.symbols.specs.Turns.{meets, step_all}
+use Rattle.symbols.specs.Turns.{meets}
 use Rattle.symbols.specs.Text.{on_stream, ruling_at}
-use Rattle.symbols.specs.Private.Turned.{ruling_read, ruled_read, after_item_read}
+use Rattle.symbols.specs.Private.Turned.{ruling_read, after_item_read}
 use Rattle.symbols.specs.declared.symbol_table.AfterItem.{AfterItem}
 use Rattle.symbols.proofs.Stepping.{steps_over, further_on, steps_further}
 use Rattle.symbols.proofs.Handlers.{stream_follows}

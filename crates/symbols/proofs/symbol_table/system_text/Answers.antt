@@ -1,5 +1,4 @@
 -- `system_text` meets its contract: the table has each text's start, by one computed test.
-use borrow.Author.Rules.{rules}
 use Prim.Native.Nat.{◌-◌, ◌<◌}
 use native.Mathlib.Omega.{arith}
 use borrow.Author.Tests.{eq-eqb, ne_eqb}

@@ -1,5 +1,4 @@
 -- `text_in` meets its contract: the system's texts below 10, then the list's entries.
-use borrow.Author.Rules.{rules}
 use borrow.Author.Tests.{lt-ltb, le-ltb}
 use native.Mathlib.Omega.{arith}
 use mathlib.Core.Path.{◌≡◌}

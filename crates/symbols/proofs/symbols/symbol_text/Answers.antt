@@ -1,6 +1,4 @@
 -- `symbol_text` meets its contract: the tests in order, then the text under the list.
-use borrow.Author.Rules.{rules}
-use borrow.Author.Tests.{not-true, not-false}
 use mathlib.Core.Path.{◌≡◌, ◌∙◌, sym}
 use mathlib.Core.Bool.{true}
 use Rattle.symbols.specs.SystemTexts.{system_bytes, same_bytes}

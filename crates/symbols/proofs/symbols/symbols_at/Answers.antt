@@ -1,6 +1,4 @@
 -- `symbols_at` meets its contract: the tests in order, then what rules, and its list.
-use borrow.Author.Rules.{rules}
-use borrow.Author.Tests.{not-true, not-false}
 use mathlib.Core.Path.{◌≡◌, ◌∙◌, sym}
 use mathlib.Core.Bool.{true}
 use Rattle.numbers.specs.Outcome.{and_then}

@@ -1,5 +1,4 @@
 -- `text_of` meets its contract: the list that rules, and the text under it.
-use borrow.Author.Rules.{rules}
 use mathlib.Core.Path.{◌∙◌}
 use Rattle.numbers.proofs.Outcomes.{then_by}
 use Rattle.symbols.specs.Text.{text_in, text_of}

@@ -5,7 +5,6 @@ use native.Mathlib.Omega.{arith}
 use mathlib.Core.Path.{◌≡◌, ◌∙◌, sym, ap}
 use mathlib.Core.List.{List}
 use lib.ListN.{length}
-use Rattle.numbers.specs.Outcome.{Outcome}
 use Rattle.numbers.proofs.Parts.{part_taken, part_none}
 use Rattle.symbols.specs.Text.{own, system, text_of, text_bytes, text_part}
 use Rattle.symbols.specs.Read.{text_read}

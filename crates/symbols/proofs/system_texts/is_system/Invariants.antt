@@ -1,17 +1,8 @@
 -- `is_system` meets its contract: the bytes passed are the same.
-use borrow.Author.Rules.{rules}
-use Prim.Native.Nat.{ℕ, ◌+◌, ◌-◌, ◌<◌, ◌≤◌}
-use native.Mathlib.Omega.{arith}
-use borrow.Author.Tests.{ltb-true, ltb-false}
-use mathlib.Core.Path.{◌≡◌, refl, ◌∙◌, sym, ap, subst}
-use mathlib.Core.Bool.{true}
-use mathlib.Core.List.{List}
+use Prim.Native.Nat.{ℕ, ◌-◌, ◌<◌, ◌≤◌}
+use mathlib.Core.Path.{◌≡◌}
 use lib.ListN.{length, get_or}
-use lib.Seq.{ext_get_or}
-use lib.Dec.{ltb}
-use Rattle.numbers.proofs.Outcomes.{by_case}
-use Rattle.symbols.specs.SystemTexts.{system_texts, system_bytes, same_bytes}
-use Rattle.symbols.proofs.SystemBytes.{same_self, differ}
+use Rattle.symbols.specs.SystemTexts.{system_bytes}
 use Rattle.symbols.proofs.system_texts.is_system.Given as goal
 
 abbrev pub invariant-loop-i : goal.invariant-loop-i

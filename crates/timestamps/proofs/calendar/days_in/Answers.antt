@@ -1,5 +1,4 @@
 -- `days_in` meets its contract: its tests are the definition's.
-use borrow.Author.Rules.{rules}
 use borrow.Author.Tests.{eq-eqb, ne_eqb}
 use mathlib.Core.Path.{◌∙◌, sym}
 use Rattle.timestamps.specs.Calendar.{days_in}

@@ -1,10 +1,8 @@
 -- `answer_in_range` meets its contract: what is in range fits the answer's numbers.
-use Prim.Native.Nat.{ℕ}
 use native.Mathlib.Omega.{arith}
-use borrow.Author.Rules.{rules}
-use mathlib.Core.Path.{◌≡◌, refl, ◌∙◌, sym}
-use mathlib.Core.Bool.{true, false}
-use Rattle.timestamps.specs.Timestamp.{Encoded, out_of_range, stamp_of, ranged, timestamp_read}
+use mathlib.Core.Path.{◌≡◌, ◌∙◌, sym}
+use mathlib.Core.Bool.{false}
+use Rattle.timestamps.specs.Timestamp.{Encoded, out_of_range, stamp_of, ranged}
 use Rattle.timestamps.specs.TimestampMeaning.{Within}
 use Rattle.timestamps.proofs.Ranges.{within_sound, month_most, day_most}
 use Rattle.timestamps.proofs.timestamp.answer_in_range.Goals as goal

@@ -1,5 +1,4 @@
 -- `date_out` meets its contract: its tests are the definition's, in the same order.
-use borrow.Author.Rules.{rules}
 use borrow.Author.Tests.{lt-ltb, le-ltb}
 use mathlib.Core.Path.{◌≡◌, ◌∙◌}
 use mathlib.Core.Bool.{true, false}

@@ -1,5 +1,4 @@
 -- `fraction_out` meets its contract: its tests are the definition's, in the same order.
-use borrow.Author.Rules.{rules}
 use borrow.Author.Tests.{eq-eqb, ne_eqb}
 use mathlib.Core.Path.{◌∙◌}
 use Rattle.timestamps.specs.Timestamp.{fraction_out}

@@ -1,5 +1,4 @@
 -- `offset_of` meets its contract: its tests are the definition's.
-use borrow.Author.Rules.{rules}
 use borrow.Author.Tests.{lt-ltb, le-ltb, eq-eqb, ne_eqb}
 use Rattle.timestamps.specs.Timestamp.{offset_of}
 use Rattle.timestamps.proofs.timestamp.offset_of.Goals as goal

@@ -1,5 +1,4 @@
 -- `out_of_range` meets its contract: its tests are the definition's, in the same order.
-use borrow.Author.Rules.{rules}
 use borrow.Author.Tests.{lt-ltb, le-ltb}
 use mathlib.Core.Path.{◌∙◌, sym}
 use Rattle.timestamps.specs.Timestamp.{offset_out, out_of_range}

@@ -1,5 +1,4 @@
 -- `precision_of` meets its contract: its tests are the definition's.
-use borrow.Author.Rules.{rules}
 use borrow.Author.Tests.{lt-ltb, le-ltb}
 use Rattle.timestamps.specs.Timestamp.{precision_of}
 use Rattle.timestamps.proofs.timestamp.precision_of.Goals as goal

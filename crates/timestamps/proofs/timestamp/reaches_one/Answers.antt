@@ -1,11 +1,6 @@
 -- `reaches_one` meets its contract: a number without its last digit reaches a power of ten where the number reaches the next one.
-use Prim.Native.Nat.{ℕ, ◌^◌}
 use native.Mathlib.Omega.{arith}
-use native.Mathlib.Nat.{pow-zero}
-use borrow.Author.Rules.{rules}
-use borrow.Author.Tests.{lt-leb}
-use mathlib.Core.Path.{◌≡◌, refl, ◌∙◌, sym, ap}
-use lib.Dec.{leb, ltb}
+use mathlib.Core.Path.{refl, ◌∙◌, sym}
 use Rattle.timestamps.proofs.Powers.{digit_less, below_power, at_least_one}
 use Rattle.timestamps.proofs.timestamp.reaches_one.Goals as goal
 

@@ -1,10 +1,8 @@
 -- `read_fields` meets its contract: at each turn the places hold what was read, and what is still to be read stands behind it.
-use Prim.Native.Nat.{ℕ, ◌-◌}
 use native.Mathlib.Omega.{arith}
-use borrow.Author.Rules.{rules}
-use mathlib.Core.Path.{◌≡◌, ◌∙◌, sym, ap}
+use mathlib.Core.Path.{◌∙◌, sym, ap}
 use Rattle.numbers.specs.Read.{var_uint_read}
-use Rattle.timestamps.proofs.FieldReading.{Progress, progress_start, progress_on, progress_last, progress_refused, progress_done}
+use Rattle.timestamps.proofs.FieldReading.{progress_start, progress_on, progress_last, progress_refused, progress_done}
 use Rattle.timestamps.proofs.timestamp.read_fields.Goals as goal
 
 pub loop-count-init : goal.loop-count-init

@@ -1,10 +1,6 @@
 -- `read_fields` meets its contract: at each turn the places hold what was read, and what is still to be read stands behind it.
-use Prim.Native.Nat.{ℕ, ◌-◌}
-use native.Mathlib.Omega.{arith}
-use borrow.Author.Rules.{rules}
-use mathlib.Core.Path.{◌≡◌, ◌∙◌, sym, ap}
-use Rattle.numbers.specs.Read.{var_uint_read}
-use Rattle.timestamps.proofs.FieldReading.{Progress, progress_start, progress_on, progress_last, progress_refused, progress_done}
+use Prim.Native.Nat.{◌-◌}
+use Rattle.timestamps.proofs.FieldReading.{Progress}
 use Rattle.timestamps.proofs.timestamp.read_fields.Given as goal
 
 abbrev pub invariant-loop-count : goal.invariant-loop-count

@@ -1,18 +1,13 @@
 -- `read_fraction` meets its contract: at each return the decimal's answer, the number of fields and the magnitude say which case holds.
-use Prim.Native.Nat.{ℕ, ◌^◌}
-use borrow.Author.Rules.{rules}
 use borrow.Author.Tests.{eq-eqb, ne_eqb}
 use native.Mathlib.Omega.{arith}
 use mathlib.Core.Path.{◌≡◌, ◌∙◌, sym, ap}
-use mathlib.Core.Bool.{true, false}
-use mathlib.Core.List.{◌∷◌}
-use lib.Dec.{eqb, leb, ltb}
-use Rattle.numbers.specs.Format.{of_digits}
-use Rattle.numbers.specs.Outcome.{gives, and_then}
-use Rattle.numbers.specs.Bytes.{part}
+use mathlib.Core.Bool.{false}
+use lib.Dec.{eqb}
+use Rattle.numbers.specs.Outcome.{gives}
 use Rattle.bodies.specs.Decimal.{Split, decimal, decimal_read}
 use Rattle.bodies.specs.declared.decimal.Decimal.{Decimal}
-use Rattle.timestamps.specs.Timestamp.{Encoded, with_fraction, with_decimal, hour_alone, too_wide, judged}
+use Rattle.timestamps.specs.Timestamp.{with_fraction, with_decimal, hour_alone, too_wide, judged}
 use Rattle.bodies.proofs.Splitting.{RestWithin, rest_within}
 use Rattle.timestamps.proofs.FieldReading.{magnitude_held, magnitude_long}
 use Rattle.timestamps.proofs.timestamp.read_fraction.Goals as goal

@@ -1,12 +1,10 @@
 -- `read_magnitude` meets its contract: the digits passed, with those still to come behind them, are the magnitude; from 2^56 up one more digit makes it 2^64 or more.
-use Prim.Native.Nat.{ℕ, ◌+◌, ◌-◌, ◌*◌, ◌^◌, ◌≤◌, ◌<◌}
+use Prim.Native.Nat.{ℕ, ◌<◌}
 use native.Mathlib.Omega.{arith}
-use borrow.Author.Rules.{rules}
 use borrow.Author.Tests.{le-leb, lt-leb}
-use mathlib.Core.Path.{◌≡◌, refl, ◌∙◌, sym, ap}
+use mathlib.Core.Path.{◌≡◌, ◌∙◌, ap}
 use mathlib.Core.List.{◌∷◌}
-use lib.ListN.{length, get_or}
-use lib.Dec.{leb}
+use lib.ListN.{get_or}
 use Rattle.numbers.specs.Format.{of_digits}
 use Rattle.numbers.specs.Bytes.{part}
 use Rattle.timestamps.specs.Private.Reading.{magnitude_answer}

@@ -1,14 +1,10 @@
 -- `read_timestamp` meets its contract: what is made of the offset's answer and of the fields' is the definition's.
-use native.Mathlib.Omega.{arith}
-use borrow.Author.Rules.{rules}
 use mathlib.Core.Path.{◌≡◌, ◌∙◌, sym, ap}
-use Rattle.numbers.specs.Outcome.{gives}
 use Rattle.numbers.specs.Answers.{var_int}
 use Rattle.numbers.specs.Read.{var_int_read}
 use Rattle.numbers.specs.declared.var_int.VarInt.{VarInt}
 use Rattle.numbers.proofs.Outcomes.{each_of}
 use Rattle.timestamps.specs.Timestamp.{fields_from, with_offset, encoded, timestamp}
-use Rattle.timestamps.specs.declared.timestamp.FieldsRead.{FieldsRead}
 use Rattle.timestamps.proofs.FieldReading.{fields_most, filled, fields_found, fields_cut, stamp_found}
 use Rattle.timestamps.proofs.timestamp.read_timestamp.Goals as goal
 use Rattle.timestamps.proofs.timestamp.read_timestamp.Goals.{After-read_var_int}

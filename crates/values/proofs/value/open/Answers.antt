@@ -1,6 +1,5 @@
 -- `open` meets its contract: 52 first, then the rules by the type code.
-use borrow.Author.Rules.{rules}
-use borrow.Author.Tests.{eq-eqb, ne_eqb, not-true, not-false}
+use borrow.Author.Tests.{eq-eqb, ne_eqb}
 use mathlib.Core.Path.{◌∙◌, sym}
 use Rattle.values.specs.Scalars.{opened}
 use Rattle.values.proofs.value.open.Goals as goal

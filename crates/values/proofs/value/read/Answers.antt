@@ -1,5 +1,4 @@
 -- `read` meets its contract: the reading of the value with its spans, without these.
-use borrow.Author.Rules.{rules}
 use Prim.Native.Nat.{ℕ}
 use mathlib.Core.Path.{◌≡◌, refl, ◌∙◌}
 use mathlib.Core.List.{List}

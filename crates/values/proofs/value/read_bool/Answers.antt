@@ -1,5 +1,4 @@
 -- `read_bool` meets its contract: codes 0 and 1 are values.
-use borrow.Author.Rules.{rules}
 use borrow.Author.Tests.{le-ltb, lt-ltb}
 use native.Mathlib.Omega.{arith}
 use Prim.Native.Nat.{◌%◌}

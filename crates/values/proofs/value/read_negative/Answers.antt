@@ -1,5 +1,4 @@
 -- `read_negative` meets its contract: a magnitude with nothing but zeros is refused.
-use borrow.Author.Rules.{rules}
 use borrow.Author.Tests.{eq-eqb, ne_eqb}
 use mathlib.Core.Path.{◌∙◌, sym}
 use Rattle.values.specs.Scalars.{negative_of}

@@ -1,5 +1,4 @@
 -- `read_placed` meets its contract: 50 first, then the scalar.
-use borrow.Author.Rules.{rules}
 use mathlib.Core.Path.{◌≡◌, ◌∙◌, sym, ap}
 use mathlib.Core.Bool.{true, false}
 use Rattle.numbers.specs.Outcome.{outside_of}

@@ -1,5 +1,4 @@
 -- `read_positive` meets its contract: the magnitude begins past its leading zeros.
-use borrow.Author.Rules.{rules}
 use Rattle.values.specs.Scalars.{positive_of}
 use Rattle.values.proofs.value.read_positive.Goals as goal
 

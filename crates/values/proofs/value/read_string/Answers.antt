@@ -1,6 +1,4 @@
 -- `read_string` meets its contract: bad UTF-8 is refused.
-use borrow.Author.Rules.{rules}
-use borrow.Author.Tests.{not-true, not-false}
 use mathlib.Core.Path.{◌∙◌, sym}
 use Rattle.values.specs.Scalars.{string_of}
 use Rattle.values.proofs.value.read_string.Goals as goal

@@ -1,5 +1,4 @@
 -- `read_symbol` meets its contract: more than eight bytes are refused.
-use borrow.Author.Rules.{rules}
 use borrow.Author.Tests.{le-ltb, lt-ltb}
 use Rattle.values.specs.Scalars.{symbol_of}
 use Rattle.values.proofs.value.read_symbol.Goals as goal

@@ -1,5 +1,4 @@
 -- `read_timestamp` meets its contract: the value is framed, and then read.
-use borrow.Author.Rules.{rules}
 use mathlib.Core.Path.{◌∙◌, sym, ap}
 use Rattle.numbers.proofs.Outcomes.{then_by, each_of}
 use Rattle.framing.specs.Read.{framed_read}

@@ -1,5 +1,4 @@
 -- `read_typed` meets its contract: each arm is the case of its type code.
-use borrow.Author.Rules.{rules}
 use borrow.Author.Tests.{ne_eqb}
 use Rattle.values.specs.Scalars.{typed_of}
 use Rattle.values.proofs.value.read_typed.Goals as goal

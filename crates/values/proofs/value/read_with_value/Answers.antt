@@ -1,10 +1,9 @@
 -- `read_with_value` meets its contract: the value is framed, and then read.
-use borrow.Author.Rules.{rules}
 use mathlib.Core.Path.{◌∙◌, sym, ap}
 use Rattle.numbers.specs.Outcome.{Outcome, gives}
 use Rattle.numbers.proofs.Outcomes.{then_by, each_of}
 use Rattle.framing.specs.Read.{framed_read, spans_of}
-use Rattle.values.specs.Scalars.{Scalar, ReadValue, with_value, read_with_value}
+use Rattle.values.specs.Scalars.{Scalar, with_value, read_with_value}
 use Rattle.values.proofs.Reading.{value_in_each}
 use Rattle.values.proofs.value.read_with_value.Goals as goal
 

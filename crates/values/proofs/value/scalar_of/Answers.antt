@@ -1,5 +1,4 @@
 -- `scalar_of` meets its contract: nulls first, then by type.
-use borrow.Author.Rules.{rules}
 use borrow.Author.Tests.{eq-eqb, ne_eqb}
 use Rattle.values.specs.Scalars.{scalar_of}
 use Rattle.values.proofs.value.scalar_of.Goals as goal

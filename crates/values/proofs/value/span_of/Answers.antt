@@ -1,5 +1,4 @@
 -- `span_of` meets its contract: each arm is a case of `span_of`.
-use borrow.Author.Rules.{rules}
 use mathlib.Core.Path.{sym, ap}
 use Rattle.values.specs.Scalars.{span_of}
 use Rattle.values.specs.Read.{scalar_read}

@@ -1,5 +1,4 @@
 -- `stamp_of` meets its contract: what is made of the body's answer, given or refused, is the definition's.
-use borrow.Author.Rules.{rules}
 use Rattle.numbers.proofs.Outcomes.{then_by}
 use Rattle.timestamps.specs.Timestamp.{timestamp_read}
 use Rattle.values.specs.Timestamps.{stamped_at}

@@ -1,5 +1,4 @@
 -- `step_in` meets its contract: the value is framed, and then opened.
-use borrow.Author.Rules.{rules}
 use mathlib.Core.Path.{◌∙◌}
 use Rattle.numbers.proofs.Outcomes.{then_by}
 use Rattle.framing.specs.Read.{framed_read}

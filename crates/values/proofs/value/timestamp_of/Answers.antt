@@ -1,5 +1,4 @@
 -- `timestamp_of` meets its contract: a timestamp by its body, any other value by its scalar.
-use borrow.Author.Rules.{rules}
 use mathlib.Core.Path.{◌∙◌, sym}
 use Rattle.values.specs.Timestamps.{timestamp_of}
 use Rattle.values.proofs.value.timestamp_of.Goals as goal

@@ -1,5 +1,4 @@
 -- `value_of` meets its contract: each case of an answer is a value, or 22.
-use borrow.Author.Rules.{rules}
 use Rattle.values.proofs.value.value_of.Goals as goal
 
 pub returns-in-End : goal.returns-in-End

@@ -2,24 +2,18 @@
 -- the part above: so the measure falls.
 use Prim.Native.Nat.{ℕ, ◌+◌, ◌-◌, ◌≤◌}
 use native.Mathlib.Omega.{arith}
-use mathlib.Core.Path.{◌≡◌, ◌∙◌, sym, ap, subst}
-use mathlib.Core.Bool.{true, false}
+use mathlib.Core.Path.{◌≡◌, ◌∙◌, sym, ap}
 use mathlib.Core.List.{List}
-use lib.ListN.{length}
-use Rattle.numbers.specs.Outcome.{Outcome, gives, refuses, outside_of}
+use Rattle.numbers.specs.Outcome.{Outcome, gives}
 use Rattle.numbers.proofs.Outcomes.{inside_order, inside_end}
-use Rattle.framing.specs.Limits.{out_of_range}
 use Rattle.framing.specs.Read.{spans_of}
 use Rattle.stepping.specs.Items.{Item}
 use Rattle.stepping.specs.Answers.{answer_at}
-use Rattle.stepping.specs.Leaving.{is_last}
 use Rattle.stepping.specs.Names.{item_by}
 use Rattle.stepping.specs.Read.{item_read}
 use Rattle.stepping.specs.declared.cursor.Rules.{Rules}
 use Rattle.walking.specs.Calls.{end_at, rules_at, calls, items_in}
-use Rattle.walking.specs.Private.State.{state_of, MetAt}
-use Rattle.walking.specs.declared.walk.Met.{Met}
-use Rattle.walking.specs.declared.walk.Met.TheVariants.{Value, Behind, Refused}
+use Rattle.walking.specs.Private.State.{state_of}
 use Rattle.walking.specs.declared.walk.Place.{Place}
 use Rattle.walking.specs.declared.walk.Walk.{Walk}
 use Rattle.walking.proofs.Depths.{in_limit}
@@ -150,9 +144,11 @@ loop-count-preserved-then-ends_body c =
     let s = a.s.now in
     let w : Walk = state_of l.ends l.fields l.place in
     let all : ℕ = items_in (calls a.limit a.deepest a.most s (state_of a.ends.now a.fields.now a.from)) in
-    let b = bodied (goal.at.loop-count-preserved-then-ends_body c).Then-ends_body in
-    (l.invariant.0, rose a.limit a.deepest a.most l.count all s w c.requires.0 l.invariant.1 c.above-place-then-ends_body.result c.if-deepest-depth.false c.if-place.false (sym c.outside.ensures ∙ c.if-outside.false) b.below
-      (by_rules a.limit s w c.rules_at-rules.result c.rules_at-rules.ensures (sym (c.item_from-item.ensures ∙ c.in-Behind.ensures a.limit (in_limit a.limit a.deepest c.requires.0)) ∙ b.is)) c.above-place-then-ends_body.ensures)
+    let b = bodied (goal.at.loop-count-preserved-then-ends_body c).Then-ends_body in (
+      l.invariant.0,
+      rose a.limit a.deepest a.most l.count all s w c.requires.0 l.invariant.1 c.above-place-then-ends_body.result c.if-deepest-depth.false c.if-place.false (sym c.outside.ensures ∙ c.if-outside.false) b.below
+          (by_rules a.limit s w c.rules_at-rules.result c.rules_at-rules.ensures (sym (c.item_from-item.ensures ∙ c.in-Behind.ensures a.limit (in_limit a.limit a.deepest c.requires.0)) ∙ b.is)) c.above-place-then-ends_body.ensures,
+    )
 
 pub returns-then-is_last : goal.returns-then-is_last
 returns-then-is_last c =
@@ -163,7 +159,7 @@ returns-then-is_last c =
     let all : ℕ = items_in (calls a.limit a.deepest a.most s (state_of a.ends.now a.fields.now a.from)) in
     stopped a.limit a.deepest a.most l.count all s w c.requires.0 l.invariant.1
     (last_here a.limit a.deepest s w c.requires.0 c.if-deepest-depth.false c.if-place.false (item_read c.item_from-item.result) (sym c.ends_body.ensures ∙ c.if-ends_body.false) (sym c.is_last.ensures ∙ c.if-is_last.true)
-      (by_rules a.limit s w c.rules_at-rules.result c.rules_at-rules.ensures (sym (c.item_from-item.ensures ∙ c.in-Behind.ensures a.limit (in_limit a.limit a.deepest c.requires.0)))))
+    (by_rules a.limit s w c.rules_at-rules.result c.rules_at-rules.ensures (sym (c.item_from-item.ensures ∙ c.in-Behind.ensures a.limit (in_limit a.limit a.deepest c.requires.0)))))
 
 pub loop-count-smaller : goal.loop-count-smaller
 loop-count-smaller c = omega (arith, c.loop-count-test.true, (handed c).1, c.requires.1)

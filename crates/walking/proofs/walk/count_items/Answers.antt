@@ -9,7 +9,6 @@ use Rattle.walking.specs.Calls.{calls, items_in}
 use Rattle.walking.specs.declared.walk.Walk.{Walk}
 use Rattle.walking.proofs.Depths.{depth_room}
 use Rattle.walking.proofs.Exact.{exact}
-use borrow.Author.Rules.{rules}
 use Rattle.walking.proofs.walk.count_items.Goals as goal
 use Rattle.walking.proofs.walk.count_items.Goals.{Else-limits_out}
 

@@ -1,12 +1,6 @@
 -- `ends_body` meets its contract: no stream's answer, and of a body's the end alone.
-use borrow.Author.Rules.{rules}
 use borrow.Author.Tests.{eq-eqb, ne_eqb}
-use Prim.Native.Nat.{ℕ, ◌≤◌}
-use native.Mathlib.Omega.{arith}
-use mathlib.Core.Path.{◌∙◌, sym, ap}
-use mathlib.Core.Logic.{inl, inr}
-use mathlib.Core.List.{[], ◌∷◌}
-use types.Run.{OneOf}
+use mathlib.Core.Path.{sym, ap}
 use Rattle.stepping.specs.Read.{item_read}
 use Rattle.stepping.specs.declared.cursor.Item.{Item as ItemEnum}
 use Rattle.walking.specs.Private.State.{is_end}

@@ -1,5 +1,4 @@
 -- `limits_out` meets its contract: its tests are the definition's.
-use borrow.Author.Rules.{rules}
 use borrow.Author.Tests.{le-ltb, lt-ltb}
 use mathlib.Core.Path.{◌∙◌, sym}
 use Rattle.walking.specs.Walk.{limits_out}

@@ -4,7 +4,6 @@ use mathlib.Core.Path.{◌∙◌, sym}
 use Rattle.walking.specs.Calls.{visit_of, barred}
 use Rattle.walking.specs.Private.State.{state_of}
 use Rattle.walking.proofs.Seeking.{visit_seek}
-use borrow.Author.Rules.{rules}
 use Rattle.walking.proofs.walk.look.Goals as goal
 
 pub returns-then-deepest-depth : goal.returns-then-deepest-depth

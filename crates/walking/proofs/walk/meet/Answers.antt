@@ -1,5 +1,4 @@
 -- `meet` meets its contract: the name that is read, what stands behind it, and its refusal are a step's, by the laws of a step by its name.
-use borrow.Author.Rules.{rules}
 use Prim.Native.Nat.{ℕ, ◌+◌}
 use native.Mathlib.Omega.{arith}
 use mathlib.Core.Path.{◌≡◌, ◌∙◌, sym, ap}

@@ -4,7 +4,6 @@ use Rattle.stepping.specs.Read.{item_read}
 use Rattle.stepping.specs.declared.cursor.Item.{Item as ItemEnum}
 use Rattle.walking.specs.Calls.{state_after_answer}
 use Rattle.walking.specs.Private.State.{state_of}
-use borrow.Author.Rules.{rules}
 use Rattle.walking.proofs.walk.pass_item.Goals as goal
 
 pub returns-in-End : goal.returns-in-End

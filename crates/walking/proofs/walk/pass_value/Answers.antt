@@ -1,10 +1,9 @@
 -- `pass_value` meets its contract: each return is a case of the state behind a value.
-use borrow.Author.Tests.{eq-eqb, ne_eqb, not-true, not-false}
+use borrow.Author.Tests.{eq-eqb, ne_eqb}
 use native.Mathlib.Numerals.{add-one}
 use native.Mathlib.Omega.{arith}
 use mathlib.Core.Path.{refl, ◌∙◌, sym}
 use Rattle.walking.specs.Calls.{state_after_value}
-use borrow.Author.Rules.{rules}
 use Rattle.walking.proofs.walk.pass_value.Goals as goal
 
 pub returns-then-not-is_container : goal.returns-then-not-is_container

@@ -8,7 +8,6 @@ use Rattle.walking.specs.Private.State.{seen_read}
 use Rattle.walking.specs.declared.walk.Walk.{Walk}
 use Rattle.walking.proofs.Depths.{depth_room}
 use Rattle.walking.proofs.Seeking.{visit_unranged, visit_depth}
-use borrow.Author.Rules.{rules}
 use Rattle.walking.proofs.walk.Walk.next.Goals as goal
 use Rattle.walking.proofs.walk.Walk.next.Goals.{Else-limits_out}
 

@@ -1,5 +1,4 @@
 -- `start` meets its contract: its state is the definition's.
-use borrow.Author.Rules.{rules}
 use mathlib.Core.Path.{refl}
 use Rattle.walking.proofs.walk.Walk.start.Goals as goal
 
