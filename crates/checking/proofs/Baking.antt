@@ -1,24 +1,24 @@
 -- In an accepted map nothing that is reached is refused: from each place of a reached part the check of what is left gives counts, so the step there is not
 -- refused, the value that it hands out was read, and what is in a container was checked.
 -- Assumes nothing.
-use Prim.Native.Nat.{ℕ, zero, suc, ◌+◌, ◌-◌, ◌≤◌, ◌<◌}
+use Prim.Native.Nat.{ℕ, ◌+◌, ◌-◌, ◌≤◌}
 use native.Mathlib.Omega.{arith}
 use borrow.Author.Tests.{le-ltb, ltb-true, ltb-false, eq-eqb}
 use mathlib.Core.Path.{◌≡◌, refl, ◌∙◌, sym, ap, subst}
-use mathlib.Core.Bool.{Bool, true, false, not}
+use mathlib.Core.Bool.{true, false}
 use mathlib.Core.Logic.{⊎_elim}
 use mathlib.Core.List.Memᴰ
-use mathlib.Core.List.{List, [], ◌∷◌, Memᴰ}
+use mathlib.Core.List.{List, Memᴰ}
 use lib.ListN.{length}
-use lib.Dec.{ltb, eqb}
+use lib.Dec.{ltb}
 use Rattle.numbers.specs.Outcome.{Outcome, gives, refuses, pick, and_then}
 use Rattle.numbers.proofs.Outcomes.{by_case, then_gives, refuse_gives, each_of, within_part}
 use Rattle.framing.specs.Limits.{out_of_range}
 use Rattle.framing.specs.Spans.{Spans}
 use Rattle.framing.specs.Answers.{Annotated, ident, finished, read_annotation, read_value}
-use Rattle.framing.proofs.Bounds.{Ordered, read_value_each}
-use Rattle.stepping.specs.Items.{Item, finish, marker, value, field, item_end}
-use Rattle.stepping.specs.Answers.{Found, found, after, Stepped, step_of}
+use Rattle.framing.proofs.Bounds.{read_value_each}
+use Rattle.stepping.specs.Items.{Item, finish, marker, value, field}
+use Rattle.stepping.specs.Answers.{found, after, Stepped, step_of}
 use Rattle.stepping.specs.Meaning.{Stands, the_end, the_item, refused_there, no_part, no_limit}
 use Rattle.stepping.specs.Runs.{cursor, Answers, Run, none, call, handed_out, items}
 use Rattle.stepping.specs.declared.cursor.Cursor.{Cursor}
@@ -32,15 +32,15 @@ use Rattle.bodies.specs.Decimal.{decimal as split_decimal}
 use Rattle.timestamps.specs.Timestamp.{timestamp as read_stamp}
 use Rattle.walking.specs.Walk.{limits_out}
 use Rattle.walking.proofs.Depths.{in_limit}
-use Rattle.runs.specs.Reached.{ValueOf, a_value, a_field, Part, the_stream, inner, Handed, EntryAt, next_annotation, AnnotationRun, none as no_more, call as one_more}
+use Rattle.runs.specs.Reached.{ValueOf, a_value, a_field, Part, the_stream, inner, EntryAt, next_annotation, AnnotationRun, none as no_more, call as one_more}
 use Rattle.runs.proofs.Nest as nest
-use Rattle.runs.proofs.Standing.{Standing, order, one, ItemStands, item_stands}
-use Rattle.runs.proofs.ValueLocality.{ValueStands, value_stands, Afresh, afresh}
+use Rattle.runs.proofs.Standing.{Standing, order, one, item_stands}
+use Rattle.runs.proofs.ValueLocality.{value_stands, Afresh, afresh}
 use Rattle.checking.specs.Counts.{markers, pads, place_of, none as nothing, counting}
 use Rattle.checking.specs.Reading.{Done, done, as_done, on_id, read_ids, read_body, read_content, content_next, read_item}
 use Rattle.checking.specs.Check.{least_room, inside_of, value_check, on_answer, part_check, whole_check}
 use Rattle.checking.specs.Private.Whole.{full}
-use Rattle.checking.specs.Unrefused.{Given, ByRules, Reached, Unrefused, Baking}
+use Rattle.checking.specs.Unrefused.{Given, ByRules, Reached, Baking}
 use Rattle.checking.proofs.Places.{Lies, lies_earlier, found_behind, NoEnd, no_end}
 use Rattle.checking.proofs.Holding.{inside_done}
 use Rattle.checking.proofs.Ids.{NextIn, annotation_each, ids_next}

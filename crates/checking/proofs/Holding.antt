@@ -3,20 +3,18 @@
 -- Assumes nothing.
 use Prim.Native.Nat.{ℕ, zero, suc, ◌+◌, ◌-◌, ◌≤◌, ◌<◌}
 use native.Mathlib.Omega.{arith}
-use borrow.Author.Tests.{eqb-true, eqb-false}
 use mathlib.Core.Path.{◌≡◌, refl, ◌∙◌, sym, ap, subst}
 use mathlib.Core.Bool.{true, false}
-use mathlib.Core.List.{List, [], ◌∷◌}
+use mathlib.Core.List.{List}
 use lib.ListN.{length, get_or, length-replicate, get_or-replicate}
 use lib.Dec.{ltb, eqb}
-use Rattle.numbers.specs.Outcome.{Outcome, gives, refuses, pick, refuse_if, and_then}
+use Rattle.numbers.specs.Outcome.{Outcome, gives, refuses, pick, and_then}
 use Rattle.numbers.proofs.Outcomes.{by_case, refuse_gives, then_gives, each_of}
 use Rattle.framing.specs.Spans.{Spans}
-use Rattle.framing.specs.Limits.{out_of_range}
 use Rattle.stepping.specs.Items.{Item, finish, marker, value, field, Pad}
-use Rattle.stepping.specs.Answers.{Found, found, step_of}
-use Rattle.stepping.specs.Format.{PadAt, ItemAt}
-use Rattle.stepping.specs.Meaning.{PadWithin, ItemWithin, Skips, arrived, passed, Stands, the_end, the_item, refused_there, no_part, no_limit}
+use Rattle.stepping.specs.Answers.{found, step_of}
+use Rattle.stepping.specs.Format.{ItemAt}
+use Rattle.stepping.specs.Meaning.{ItemWithin, Skips, arrived, passed, Stands, the_end, the_item, refused_there, no_part, no_limit}
 use Rattle.stepping.specs.Runs.{cursor}
 use Rattle.stepping.specs.declared.cursor.Rules.{Rules}
 use Rattle.stepping.specs.declared.cursor.Rules.TheVariants.{Stream}

@@ -1,14 +1,14 @@
 -- The annotation IDs of a value, one at a time.
 -- Assumes nothing.
-use Prim.Native.Nat.{ℕ, zero, suc, ◌+◌, ◌-◌, ◌≤◌, ◌<◌}
+use Prim.Native.Nat.{ℕ, zero, suc, ◌-◌, ◌≤◌, ◌<◌}
 use native.Mathlib.Omega.{arith}
 use borrow.Author.Tests.{eq-eqb}
 use mathlib.Core.Path.{◌≡◌, refl, ◌∙◌, sym, ap}
 use mathlib.Core.List.{List}
 use lib.ListN.{length}
 use lib.Dec.{eqb}
-use Rattle.numbers.specs.Outcome.{Outcome, gives, refuses, and_then}
-use Rattle.numbers.proofs.Outcomes.{Each, given, refused, each_pick, each_within, each_then, then_same, within_part}
+use Rattle.numbers.specs.Outcome.{Outcome, gives, and_then}
+use Rattle.numbers.proofs.Outcomes.{Each, given, each_pick, each_within, each_then, then_same, within_part}
 use Rattle.numbers.proofs.Meaning.{var_uint_bounded}
 use Rattle.framing.specs.Answers.{Annotated, ident, finished, read_annotation}
 use Rattle.checking.specs.Reading.{Done, done, on_id, ids_from, read_ids}

@@ -1,6 +1,6 @@
 -- The theorems of specs/Moved.antt: each reading, its positions n bytes further on, is the same reading; and of two places one is further on.
 -- Assumes nothing.
-use Prim.Native.Nat.{ℕ, zero, suc, ◌+◌, ◌-◌, ◌/◌, ◌%◌, ◌≤◌, ◌<◌}
+use Prim.Native.Nat.{ℕ, zero, suc, ◌+◌, ◌-◌, ◌≤◌, ◌<◌}
 use native.Mathlib.Omega.{arith}
 use borrow.Author.Tests.{ltb-true, ltb-false}
 use mathlib.Core.Path.{◌≡◌, refl, ◌∙◌, sym, ap, subst}
@@ -10,10 +10,10 @@ use lib.ListN.{length, get_or}
 use lib.Dec.{ltb, eqb}
 use Rattle.numbers.specs.Outcome.{Outcome, gives, refuses, pick, refuse_if, and_then}
 use Rattle.numbers.proofs.Outcomes.{by_case, inside, each_of}
-use Rattle.numbers.proofs.Moving.{Moved, given_on, refused_on, moved_then, moved_pick, same_moved, part_moved, moved_unsigned, var_uint_moved}
+use Rattle.numbers.proofs.Moving.{Moved, given_on, refused_on, moved_then, moved_pick, same_moved, part_moved, var_uint_moved}
 use Rattle.framing.specs.Spans.{Spans}
 use Rattle.framing.specs.Answers.{Annotated, ident, finished, identified, read_annotation}
-use Rattle.bodies.specs.Utf8.{utf8, well_formed}
+use Rattle.bodies.specs.Utf8.{utf8}
 use Rattle.bodies.specs.Magnitude.{nonzero_among, significant_from}
 use Rattle.bodies.specs.Decimal.{Split, decimal as split_decimal, moved_decimal}
 use Rattle.timestamps.specs.Timestamp.{Encoded, encoded, out_of_range, stamp_of, ranged, hour_alone, too_wide, judged, timestamp as read_stamp}
@@ -21,7 +21,7 @@ use Rattle.timestamps.specs.TimestampMeaning.{moved_encoded}
 use Rattle.timestamps.specs.declared.timestamp.Stamp.{Stamp}
 use Rattle.bodies.proofs.Splitting.{decimals-moved}
 use Rattle.timestamps.proofs.StampMoving.{timestamps-moved}
-use Rattle.values.specs.Scalars.{type_of, code_of, Scalar, null, bool, int, float, decimal, timestamp, symbol, string, clob, blob, container}
+use Rattle.values.specs.Scalars.{type_of, code_of, Scalar}
 use Rattle.values.specs.Scalars.{bool_of, positive_of, negative_of, float_of, symbol_of, string_of, typed_of, scalar_of}
 use Rattle.checking.specs.Reading.{Done, done, as_done, on_id, ids_from, read_ids, read_body, read_content, content_next, read_item}
 use Rattle.checking.proofs.Ids.{NextIn, annotation_each}

@@ -1,13 +1,13 @@
 -- Where what a step finds lies: behind the pads that it skips, each of a byte at least, in what is left of the part; and a value's type is one of the document's.
 -- Assumes nothing.
-use Prim.Native.Nat.{ℕ, zero, suc, ◌+◌, ◌/◌, ◌≤◌, ◌<◌}
+use Prim.Native.Nat.{ℕ, ◌+◌, ◌/◌, ◌≤◌, ◌<◌}
 use native.Mathlib.Omega.{arith}
-use mathlib.Core.Path.{◌≡◌, refl, sym, ap, subst}
+use mathlib.Core.Path.{◌≡◌, sym, subst}
 use mathlib.Core.List.{List, [], ◌∷◌}
 use lib.ListN.{length}
 use Rattle.numbers.specs.Outcome.{Outcome, gives, refuses}
 use Rattle.framing.specs.Spans.{Spans}
-use Rattle.framing.specs.Format.{ValueType, typed, null_null, TypedValue, AnnotationWrapper, ValueBytes, plain, annotated, type_at, code_at}
+use Rattle.framing.specs.Format.{ValueType, typed, null_null, TypedValue, ValueBytes, plain, annotated}
 use Rattle.stepping.specs.Items.{Item, finish, marker, value, field}
 use Rattle.stepping.specs.Answers.{Found, found}
 use Rattle.stepping.specs.Format.{ItemAt, marker-at, value_in_stream, value_in_sequence, field-at}

@@ -2,12 +2,9 @@
 -- Assumes nothing.
 use Prim.Native.Nat.{ℕ, ◌-◌, ◌≤◌}
 use native.Mathlib.Omega.{arith}
-use denote.Enum.Declared.{tag_of}
-use types.Run.{OneOf}
-use mathlib.Core.Path.{◌≡◌, refl, ◌∙◌, sym, ap}
+use mathlib.Core.Path.{◌≡◌, refl, ◌∙◌, ap}
 use mathlib.Core.Bool.{true, false, not}
-use mathlib.Core.Logic.{inl, inr}
-use mathlib.Core.List.{List, [], ◌∷◌}
+use mathlib.Core.List.{List}
 use lib.ListN.{length}
 use lib.Dec.{ltb}
 use borrow.Author.Tests.{not-false}
@@ -16,15 +13,14 @@ use Rattle.numbers.proofs.Outcomes.{by_case, within_part, refuse_gives}
 use Rattle.framing.specs.Spans.{Spans}
 use Rattle.stepping.specs.declared.cursor.Rules.{Rules}
 use Rattle.values.specs.Read.{scalar_read}
-use Rattle.values.specs.Scalars.{is_container, body_rules, Opened, opened, Scalar, scalar_of, scalar_in}
+use Rattle.values.specs.Scalars.{is_container, body_rules, Opened, opened, Scalar, scalar_in}
 use Rattle.numbers.specs.declared.refusal.Refusal.{Refusal}
 use Rattle.values.specs.declared.value.Scalar.{Scalar as ScalarEnum}
 use Rattle.values.specs.declared.value.Scalar.TheVariants.{Null, Bool, Int, Float, Decimal, Timestamp, Symbol}
 use Rattle.values.specs.declared.value.Scalar.TheVariants.{Text, Clob, Blob, Container, Refused}
-use Rattle.values.specs.contracts.value.Scalar.{the_type}
 use Rattle.checking.specs.Counts.{place_of, counting}
-use Rattle.checking.specs.Reading.{Done, done, read_body, read_ids, content_next, read_content, read_item}
-use Rattle.checking.specs.Check.{Parts, least_room, inside_of, value_check}
+use Rattle.checking.specs.Reading.{done, read_body, read_ids, read_content, read_item}
+use Rattle.checking.specs.Check.{Parts, least_room, value_check}
 
 -- a scalar that is neither a decimal nor a timestamp nor a refusal: nothing is left to be read
 pub plain_read : (s : List ℕ) (descriptor : ℕ) (x : ScalarEnum) → ((a b : ℕ) → x ≡ Decimal a b → ⊥) → ((a b : ℕ) → x ≡ Timestamp a b → ⊥) → ((e : Refusal) → x ≡ Refused e → ⊥) → gives done ≡ and_then (scalar_read x) (read_body s descriptor)

@@ -5,17 +5,17 @@ use Prim.Native.Nat.{ℕ, zero, suc, ◌+◌, ◌-◌, ◌≤◌, ◌<◌}
 use native.Mathlib.Omega.{arith}
 use borrow.Author.Tests.{eq-eqb, ne_eqb, ltb-true, ltb-false}
 use mathlib.Core.Path.{◌≡◌, refl, ◌∙◌, sym, ap, subst}
-use mathlib.Core.Bool.{true, false}
+use mathlib.Core.Bool.{true}
 use mathlib.Core.Logic.{⊎_elim}
 use mathlib.Core.List.Memᴰ
 use mathlib.Core.List.{List, [], ◌∷◌, Memᴰ}
 use lib.ListN.{length, get_or, length-replicate, get_or-replicate}
 use lib.Dec.{ltb, eqb}
-use Rattle.numbers.specs.Outcome.{Outcome, gives, refuses, pick, refuse_if, and_then}
-use Rattle.numbers.proofs.Outcomes.{by_case, then_then, then_same, then_gives, refuse_first, refuse_same}
+use Rattle.numbers.specs.Outcome.{Outcome, gives, refuses, pick, and_then}
+use Rattle.numbers.proofs.Outcomes.{by_case, then_then, then_same, then_gives}
 use Rattle.framing.specs.Spans.{Spans}
 use Rattle.stepping.specs.Items.{Item, finish, marker, value, field}
-use Rattle.stepping.specs.Answers.{found, step_of, answer_at}
+use Rattle.stepping.specs.Answers.{found, step_of}
 use Rattle.stepping.specs.Runs.{cursor}
 use Rattle.stepping.specs.declared.cursor.Rules.{Rules}
 use Rattle.stepping.specs.declared.cursor.Rules.TheVariants.{Stream}
@@ -23,7 +23,7 @@ use Rattle.values.specs.Scalars.{is_container, body_rules}
 use Rattle.walking.specs.Walk.{limits_out, Visit, visit, Inside, behind, following, walk_of, whole_walk}
 use Rattle.checking.specs.Counts.{markers, pads, place_of, none, counting}
 use Rattle.checking.specs.Reading.{Done, done, read_item}
-use Rattle.checking.specs.Check.{Parts, least_room, inside_of, value_check, on_answer, on_found, part_check, whole_check}
+use Rattle.checking.specs.Check.{Parts, least_room, inside_of, value_check, on_answer, part_check, whole_check}
 use Rattle.checking.specs.WalkRead.{one, then_count, read_visit, read_visits, of_answer, items_of}
 use Rattle.checking.specs.Theorems.{count_at, ChecksWalk, AcceptedWalk, RefusedWalk, FirstRefusal}
 use Rattle.checking.proofs.Tallies.{counting_length, counting_other, counting_at, Kept, EachPart, part_kept}

@@ -4,7 +4,7 @@ use Rattle.std.specs.Prelude.{ℕ, ◌<◌, ◌≡◌, length, get_or}
 use mathlib.Core.List.{List, Memᴰ}
 use Rattle.numbers.specs.Outcome.{Outcome, gives, refuses, and_then}
 use Rattle.stepping.specs.declared.cursor.Rules.TheVariants.{Stream}
-use Rattle.walking.specs.Walk.{Visit, visit, whole_walk}
+use Rattle.walking.specs.Walk.{visit, whole_walk}
 use Rattle.checking.specs.Check.{whole_check}
 use Rattle.checking.specs.WalkRead.{read_visits, items_of}
 use Rattle.checking.specs.Held.{Held}

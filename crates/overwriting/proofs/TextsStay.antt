@@ -11,7 +11,7 @@ use mathlib.Core.List.{List, [], ◌∷◌, Memᴰ}
 use lib.ListN.{length}
 use lib.Dec.{ltb, eqb}
 use Rattle.numbers.specs.Outcome.{Outcome, gives, refuses, pick}
-use Rattle.numbers.specs.Bytes.{Same, part}
+use Rattle.numbers.specs.Bytes.{Same}
 use Rattle.numbers.proofs.Outcomes.{Each, given, refused, each_refuse, each_within, each_then, each_pick, each_of, each_map, by_test, refuse_same, then_same, pick_same}
 use Rattle.numbers.proofs.Parts.{part_same}
 use Rattle.numbers.proofs.Locality.{within_local, looked_high}

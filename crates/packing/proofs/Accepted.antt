@@ -1,15 +1,15 @@
 -- A.5 accepts what is packed of an accepted map, with the same counts but no pads: the check goes alike over both, an item at a time.
 -- Assumes nothing.
-use Prim.Native.Nat.{ℕ, zero, suc, ◌+◌, ◌-◌, ◌/◌, ◌%◌, ◌^◌, ◌≤◌, ◌<◌}
+use Prim.Native.Nat.{ℕ, zero, suc, ◌+◌, ◌-◌, ◌/◌, ◌%◌, ◌≤◌, ◌<◌}
 use native.Mathlib.Omega.{arith}
 use mathlib.Core.Path.{◌≡◌, refl, ◌∙◌, sym, ap, subst}
 use mathlib.Core.Bool.{Bool, true, false, true≢false}
-use mathlib.Core.List.{List, [], ◌∷◌, ◌++◌}
+use mathlib.Core.List.{List, []}
 use lib.ListN.{length, get_or, set}
 use lib.Seq.{set-set, set_comm, get_or-set_other}
 use lib.Dec.{ltb, eqb}
-use borrow.Author.Tests.{ne_eqb, eqb-true, eqb-false, le-ltb, ltb-true, ltb-false}
-use Rattle.numbers.specs.Outcome.{Outcome, gives, refuses, pick, and_then, refuse_if}
+use borrow.Author.Tests.{ne_eqb, eqb-true, eqb-false, ltb-true, ltb-false}
+use Rattle.numbers.specs.Outcome.{Outcome, gives, refuses, pick, and_then}
 use Rattle.numbers.specs.Bytes.{part}
 use Rattle.numbers.proofs.Outcomes.{by_case, by_test, then_gives, refuse_gives}
 use Rattle.numbers.proofs.Parts.{part_length, part_at}
@@ -25,8 +25,8 @@ use Rattle.checking.specs.Moved.{SameBytes, Alike, both_give, both_refuse}
 use Rattle.checking.proofs.Moving.{ids_alike, contents_alike}
 use Rattle.numbers.specs.Format.{VarBytes, last, more, NumberAt}
 use Rattle.framing.specs.Meaning.{Within}
-use Rattle.stepping.specs.Items.{Item, finish, marker, value, field, Pad}
-use Rattle.stepping.specs.Answers.{Found, stop, found, step_of, answer_at}
+use Rattle.stepping.specs.Items.{Item, finish}
+use Rattle.stepping.specs.Answers.{stop, found, step_of}
 use Rattle.stepping.specs.Format.{ItemAt, marker-at, value_in_stream, value_in_sequence, field-at}
 use Rattle.stepping.specs.Meaning.{ItemWithin, arrived, Stands, the_end, the_item, refused_there, no_part, no_limit}
 use Rattle.stepping.specs.Runs.{cursor}
@@ -37,12 +37,12 @@ use Rattle.stepping.proofs.Soundness.{steps-sound}
 use Rattle.checking.specs.Check.{Parts, least_room, inside_of, value_check, on_answer, on_found, part_check, whole_check}
 use Rattle.checking.proofs.Unrolled.{counting_none}
 use Rattle.encoding.specs.Meaning.{StandsAt}
-use Rattle.packing.specs.Tree.{Head, Tree, nothing, mark, leaf, branch, lengthless, kept_byte, written, bytes_of}
+use Rattle.packing.specs.Tree.{Head, Tree, mark, leaf, branch, lengthless, kept_byte, bytes_of}
 use Rattle.packing.specs.Packed.{head_of, node_of, tree_on, tree_in, tree_of, packed}
 use Rattle.packing.proofs.Sizes.{low_lengthless, bare_kept}
 use Rattle.packing.proofs.Values.{Framed}
 use Rattle.packing.proofs.Back.{wire_byte, bare_wire, holds, Kin, kin_holds, kin_rules, wire_kin, kept_kin, Stood}
-use Rattle.packing.proofs.Lawful.{Named, in_stream_none, in_sequence_none, by_id, Lawful, no_more, marked, scalar, holding, is_holding, written_least, leaf_length, branch_length, mark_length, none_length, Packs, packs}
+use Rattle.packing.proofs.Lawful.{Named, in_stream_none, in_sequence_none, by_id, Lawful, scalar, holding, is_holding, written_least, leaf_length, branch_length, mark_length, none_length, packs}
 use Rattle.packing.specs.Theorems.{without_pads, PackedAccepted}
 use Rattle.packing.proofs.Twice.{whole_stands}
 use Rattle.packing.proofs.ReadBack.{Parts as WrittenParts, taken, marker_stands, body_stands}

@@ -5,16 +5,16 @@ use native.Mathlib.Omega.{arith}
 use mathlib.Core.Path.{◌≡◌, refl, ◌∙◌, sym, ap, subst}
 use mathlib.Core.Bool.{Bool, true, false, true≢false}
 use mathlib.Core.List.{List, [], ◌∷◌, ◌++◌}
-use lib.ListN.{length, get_or, length-append}
+use lib.ListN.{length, get_or}
 use lib.Dec.{ltb, eqb}
-use mathlib.Core.Logic.{◌⊎◌, inl, inr}
+use mathlib.Core.Logic.{inr}
 use borrow.Author.Tests.{le-ltb, ltb-true, ltb-false, eqb-true, eqb-false, eq-eqb, ne_eqb}
 use Rattle.numbers.specs.Outcome.{pick}
 use Rattle.numbers.specs.Bytes.{part}
 use Rattle.numbers.proofs.Outcomes.{by_case, by_test}
 use Rattle.numbers.proofs.Parts.{part_none}
 use Rattle.framing.specs.Spans.{Spans}
-use Rattle.framing.specs.Format.{type_at, code_at, CodeLength, long, ValueLength, none, null, ordered, ValueType, typed, Legal, TypedValue, AnnotationWrapper, ValueBytes, plain, annotated}
+use Rattle.framing.specs.Format.{type_at, code_at, CodeLength, long, ValueLength, none, null, ordered, ValueType, typed, Legal, TypedValue, ValueBytes, plain, annotated}
 use Rattle.framing.specs.Meaning.{Within}
 use Rattle.stepping.specs.declared.cursor.Rules.{Rules}
 use Rattle.stepping.specs.declared.cursor.Rules.TheVariants.{Sequence, Fields}
@@ -23,10 +23,10 @@ use Rattle.encoding.specs.Heads.{head_bytes, head_byte, head_size, typed_bytes, 
 use Rattle.encoding.specs.Meaning.{StandsAt, Writable, Wrapper}
 use Rattle.encoding.proofs.VarUInts.{bytes_size}
 use Rattle.encoding.proofs.Standing.{stands_first, stands_rest, stands_byte, stands_next}
-use Rattle.encoding.proofs.Heads.{head_length, head_few, head_type, head-code, code_below, code_same, NumberStands, number_stands, typed-back, wrapper-back, wrapped_length, wrapper_length}
+use Rattle.encoding.proofs.Heads.{head_length, head_type, head-code, code_below, code_same, NumberStands, number_stands, typed-back, wrapper-back, wrapped_length, wrapper_length}
 use Rattle.packing.specs.Tree.{lengthless, ordered_byte, kept_byte, header_of, wrapping}
-use Rattle.packing.specs.Private.Sizes.{header_size, wrapped_size, wrap_size}
-use Rattle.packing.proofs.Sizes.{null_lengthless, has_length, ordered_has, bare_size, bare_bytes, bare_kept, ordered_size, ordered_bytes, ordered_kept, coded_size, coded_bytes, coded_kept, header_length, header_some, value-length, wrapped-size, wrapping_length, wrap_none, wrap_some}
+use Rattle.packing.specs.Private.Sizes.{header_size, wrapped_size}
+use Rattle.packing.proofs.Sizes.{null_lengthless, has_length, ordered_has, bare_size, bare_bytes, bare_kept, ordered_size, ordered_bytes, ordered_kept, coded_size, coded_bytes, coded_kept, header_length, value-length, wrapped-size}
 use Rattle.packing.proofs.Shapes.{Shape, bare, in_order, lengthed}
 use Rattle.packing.proofs.Values.{Framed}
 

@@ -2,13 +2,12 @@
 -- Assumes nothing.
 use Prim.Native.Nat.{ℕ, ◌+◌, ◌-◌, ◌≤◌, ◌<◌}
 use native.Mathlib.Omega.{arith}
-use mathlib.Core.Path.{◌≡◌, refl, ◌∙◌, sym, ap}
-use mathlib.Core.List.{List, [], ◌∷◌, ◌++◌, append_assoc}
+use mathlib.Core.Path.{◌≡◌, ◌∙◌, sym, ap}
+use mathlib.Core.List.{List, [], ◌++◌, append_assoc}
 use lib.ListN.{length, length-append}
 use lib.Dec.{eqb}
 use lib.Seq.{sets}
 use borrow.Author.Tests.{ne_eqb}
-use Rattle.numbers.specs.Outcome.{pick}
 use Rattle.numbers.proofs.Outcomes.{by_case}
 use Rattle.encoding.specs.Fields.{var_uint_size, var_uint_bytes}
 use Rattle.encoding.specs.Heads.{head_bytes, head_size, typed_bytes, wrapped_bytes, wrapper_bytes}

@@ -1,14 +1,12 @@
 -- A map's tree is of what can be written: its names, lengths and annotations are within the limits. And in bytes it is no longer than the part.
 -- Assumes nothing.
-use Prim.Native.Nat.{ℕ, zero, suc, ◌+◌, ◌-◌, ◌/◌, ◌^◌, ◌≤◌, ◌<◌}
+use Prim.Native.Nat.{ℕ, zero, suc, ◌+◌, ◌-◌, ◌/◌, ◌≤◌}
 use native.Mathlib.Omega.{arith}
 use mathlib.Core.Path.{◌≡◌, refl, ◌∙◌, sym, ap, subst}
-use mathlib.Core.Bool.{Bool, true, false, true≢false}
-use mathlib.Core.List.{List, [], ◌∷◌, ◌++◌}
+use mathlib.Core.Bool.{true, false, true≢false}
+use mathlib.Core.List.{List, []}
 use lib.ListN.{length, length-append}
-use lib.Dec.{eqb}
-use borrow.Author.Tests.{eq-eqb}
-use Rattle.numbers.specs.Outcome.{Outcome, gives, refuses, pick}
+use Rattle.numbers.specs.Outcome.{Outcome, gives}
 use Rattle.numbers.specs.Bytes.{part}
 use Rattle.numbers.specs.Format.{VarBytes, last, more}
 use Rattle.numbers.proofs.Outcomes.{by_test}
@@ -17,7 +15,7 @@ use Rattle.framing.specs.Spans.{Spans}
 use Rattle.framing.specs.Format.{ValueBytes, plain, annotated}
 use Rattle.framing.specs.Meaning.{Within}
 use Rattle.stepping.specs.Items.{Item, Pad}
-use Rattle.stepping.specs.Answers.{found, step_of, answer_at}
+use Rattle.stepping.specs.Answers.{step_of}
 use Rattle.stepping.specs.Format.{NameBytes, in_stream, in_sequence, in_fields, ItemAt, marker-at, value_in_stream, value_in_sequence, field-at}
 use Rattle.stepping.specs.Meaning.{ItemWithin, Skips, arrived, passed, Stands, the_end, the_item, refused_there, no_part, no_limit}
 use Rattle.stepping.specs.Runs.{cursor}
@@ -30,7 +28,7 @@ use Rattle.packing.specs.Packed.{head_of, node_of, tree_on, tree_in}
 use Rattle.packing.specs.Private.Sizes.{header_size, wrap_size, value_size}
 use Rattle.packing.proofs.Sizes.{header_some, wrap_least, written_length}
 use Rattle.packing.proofs.Values.{Framed, Repacked, repacked}
-use Rattle.packing.proofs.Back.{holds, rules_by, Kin, kept_kin, kin_holds, kin_rules}
+use Rattle.packing.proofs.Back.{holds, rules_by, kept_kin, kin_holds, kin_rules}
 
 -- a name by the rules of a part: a field ID of nine bytes at most, or nothing
 pub data Named : Rules → List ℕ → Type 0 where

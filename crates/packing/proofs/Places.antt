@@ -1,12 +1,12 @@
 -- Where what a step answers lies, and that what is packed of it is no longer.
 -- Assumes nothing.
-use Prim.Native.Nat.{ℕ, ◌+◌, ◌-◌, ◌/◌, ◌≤◌, ◌<◌}
+use Prim.Native.Nat.{ℕ, ◌+◌, ◌-◌, ◌/◌, ◌≤◌}
 use native.Mathlib.Omega.{arith}
-use mathlib.Core.Path.{◌≡◌, refl, ◌∙◌, sym, ap, subst}
-use mathlib.Core.Bool.{true, false, true≢false}
+use mathlib.Core.Path.{◌≡◌, ◌∙◌, sym, ap, subst}
+use mathlib.Core.Bool.{true, false}
 use mathlib.Core.List.{List}
 use lib.ListN.{length}
-use Rattle.numbers.specs.Outcome.{Outcome, gives, refuses, pick}
+use Rattle.numbers.specs.Outcome.{Outcome, gives}
 use Rattle.numbers.specs.Bytes.{part}
 use Rattle.numbers.proofs.Outcomes.{by_test}
 use Rattle.numbers.proofs.Parts.{part_length}
@@ -22,10 +22,10 @@ use Rattle.stepping.specs.declared.cursor.Rules.{Rules}
 use Rattle.stepping.specs.declared.cursor.Rules.TheVariants.{Fields}
 use Rattle.stepping.proofs.Soundness.{steps-sound}
 use Rattle.values.specs.Scalars.{is_container, body_rules}
-use Rattle.packing.specs.Tree.{kept_byte, written, bytes_of}
-use Rattle.packing.specs.Packed.{head_of, tree_in}
+use Rattle.packing.specs.Tree.{kept_byte}
+use Rattle.packing.specs.Packed.{head_of}
 use Rattle.packing.specs.Private.Sizes.{header_size, wrap_size, value_size}
-use Rattle.packing.specs.Private.Items.{tree_at, bytes_at, body_bytes, value_bytes, PlacedAt, HandedOut}
+use Rattle.packing.specs.Private.Items.{tree_at, bytes_at, body_bytes, value_bytes, HandedOut}
 use Rattle.packing.proofs.Sizes.{written_length}
 use Rattle.packing.proofs.Values.{Repacked, repacked}
 use Rattle.packing.proofs.Lawful.{Lawful, Packs, packs, skips_on, not_one, value_ends}

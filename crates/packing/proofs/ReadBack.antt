@@ -1,35 +1,34 @@
 -- A lawful tree's bytes, wherever they stand, are read back as that tree: each step meets what was written, and no pad.
 -- Assumes nothing.
-use Prim.Native.Nat.{ℕ, zero, suc, ◌+◌, ◌-◌, ◌/◌, ◌^◌, ◌≤◌, ◌<◌}
+use Prim.Native.Nat.{ℕ, zero, suc, ◌+◌, ◌≤◌}
 use native.Mathlib.Omega.{arith}
 use mathlib.Core.Path.{◌≡◌, refl, ◌∙◌, sym, ap, subst}
-use mathlib.Core.Bool.{Bool, true, false}
+use mathlib.Core.Bool.{true, false}
 use mathlib.Core.List.{List, [], ◌∷◌, ◌++◌}
 use lib.ListN.{length, get_or, length-append}
-use Rattle.numbers.specs.Outcome.{Outcome, gives, refuses, pick}
+use Rattle.numbers.specs.Outcome.{gives}
 use Rattle.numbers.specs.Bytes.{part}
-use Rattle.numbers.specs.Format.{VarBytes, last, more, var_uint_of, NumberAt}
-use Rattle.numbers.proofs.Parts.{part_length}
+use Rattle.numbers.specs.Format.{VarBytes, last, more, NumberAt}
 use Rattle.framing.specs.Spans.{Spans}
 use Rattle.framing.specs.Limits.{out_of_range}
-use Rattle.framing.specs.Format.{ValueBytes, plain, annotated}
+use Rattle.framing.specs.Format.{ValueBytes}
 use Rattle.framing.specs.Meaning.{Within}
-use Rattle.stepping.specs.Items.{Item, finish, marker, value, field}
-use Rattle.stepping.specs.Answers.{Found, found, step_of, answer_at}
+use Rattle.stepping.specs.Items.{Item, finish, marker}
+use Rattle.stepping.specs.Answers.{Found, step_of, answer_at}
 use Rattle.stepping.specs.Format.{ItemAt, marker-at, value_in_stream, value_in_sequence, field-at}
 use Rattle.stepping.specs.Meaning.{ItemWithin, arrived}
 use Rattle.stepping.specs.Runs.{cursor}
 use Rattle.stepping.specs.declared.cursor.Rules.{Rules}
-use Rattle.stepping.specs.declared.cursor.Rules.TheVariants.{Stream, Sequence, Fields}
+use Rattle.stepping.specs.declared.cursor.Rules.TheVariants.{Stream}
 use Rattle.stepping.proofs.Completeness.{steps-complete}
 use Rattle.values.specs.Scalars.{is_container, body_rules}
 use Rattle.encoding.specs.Meaning.{StandsAt}
 use Rattle.encoding.proofs.Standing.{stands_first, stands_rest, stands_byte, stands_next}
-use Rattle.packing.specs.Tree.{Head, Tree, nothing, mark, leaf, branch, kept_byte, header_of, wrapping, written, bytes_of}
+use Rattle.packing.specs.Tree.{Head, Tree, mark, leaf, branch, header_of, wrapping, written, bytes_of}
 use Rattle.packing.specs.Packed.{head_of, node_of, tree_on, tree_in}
 use Rattle.packing.proofs.Values.{Framed}
-use Rattle.packing.proofs.Back.{wire_byte, holds, rules_by, wire_kin, wire_kept, kin_holds, kin_rules, Stood, stood}
-use Rattle.packing.proofs.Lawful.{Named, in_stream_none, in_sequence_none, by_id, Lawful, no_more, marked, scalar, holding, written_least, leaf_length, branch_length, mark_length, none_length, is_holding}
+use Rattle.packing.proofs.Back.{holds, rules_by, wire_kin, wire_kept, kin_holds, kin_rules, Stood, stood}
+use Rattle.packing.proofs.Lawful.{Named, in_stream_none, in_sequence_none, by_id, Lawful, no_more, marked, scalar, holding, written_least, leaf_length, branch_length, mark_length, is_holding}
 
 module _ (limit : ℕ) (s : List ℕ) (ranged : out_of_range limit ≡ false) where
   -- what stands at a position is what a step there answers

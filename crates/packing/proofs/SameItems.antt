@@ -1,30 +1,29 @@
 -- The walk of an accepted map is its tree, each container before what is in it; so the walk of the packed map, which is read as the same tree, meets the same.
 -- Assumes nothing.
-use Prim.Native.Nat.{ℕ, zero, suc, ◌+◌, ◌-◌, ◌/◌, ◌≤◌, ◌<◌}
+use Prim.Native.Nat.{ℕ, zero, suc, ◌+◌, ◌-◌, ◌≤◌}
 use native.Mathlib.Omega.{arith}
-use mathlib.Core.Path.{◌≡◌, refl, ◌∙◌, sym, ap, subst}
-use mathlib.Core.Bool.{Bool, true, false}
+use mathlib.Core.Path.{◌≡◌, refl, ◌∙◌, sym, ap}
+use mathlib.Core.Bool.{false}
 use mathlib.Core.List.{List, [], ◌∷◌, map}
 use lib.ListN.{length}
-use lib.Dec.{ltb, eqb}
+use lib.Dec.{ltb}
 use borrow.Author.Tests.{ne_eqb, ltb-false}
-use Rattle.numbers.specs.Outcome.{Outcome, gives, refuses, pick, and_then, refuse_if}
+use Rattle.numbers.specs.Outcome.{Outcome, gives, refuses}
 use Rattle.numbers.specs.Bytes.{part}
 use Rattle.numbers.proofs.Outcomes.{by_case, refuse_gives}
 use Rattle.framing.specs.Spans.{Spans}
 use Rattle.stepping.specs.Items.{Item, finish, marker, value, field}
-use Rattle.stepping.specs.Answers.{found, step_of, answer_at}
+use Rattle.stepping.specs.Answers.{found, step_of}
 use Rattle.stepping.specs.Runs.{cursor}
 use Rattle.stepping.specs.declared.cursor.Rules.{Rules}
 use Rattle.stepping.specs.declared.cursor.Rules.TheVariants.{Stream}
 use Rattle.values.specs.Scalars.{is_container, body_rules, type_of}
-use Rattle.walking.specs.Walk.{limits_out, Visit, visit, Inside, behind, following, walk_of, whole_walk}
+use Rattle.walking.specs.Walk.{limits_out, Visit, visit, behind, following, walk_of, whole_walk}
 use Rattle.checking.specs.Counts.{pads, place_of, none, counting}
-use Rattle.checking.specs.Reading.{done}
-use Rattle.checking.specs.Check.{Parts, least_room, inside_of, value_check, on_answer, on_found, part_check, whole_check}
-use Rattle.packing.specs.Tree.{Head, Tree, nothing, mark, leaf, branch, kept_byte, bytes_of}
+use Rattle.checking.specs.Check.{least_room, on_answer, part_check, whole_check}
+use Rattle.packing.specs.Tree.{Tree, bytes_of}
 use Rattle.packing.specs.Packed.{head_of, node_of, tree_on, tree_in, tree_of, packed}
-use Rattle.packing.specs.Meant.{Meant, an_end, a_marker, a_scalar, a_container, a_refusal, meant_value, meant_item, meant, preorder}
+use Rattle.packing.specs.Meant.{Meant, an_end, a_marker, a_scalar, a_container, meant_value, meant, preorder}
 use Rattle.packing.specs.Theorems.{SameItems}
 use Rattle.packing.proofs.Back.{kept_kin}
 use Rattle.packing.proofs.Accepted.{Checks, checks, held_room, held_inside, packed-accepted}

@@ -4,13 +4,11 @@ use Prim.Native.Nat.{ℕ, ◌+◌, ◌-◌, ◌*◌, ◌/◌, ◌%◌, ◌^◌, 
 use native.Mathlib.Omega.{arith}
 use mathlib.Core.Path.{◌≡◌, refl, ◌∙◌, sym, ap, subst}
 use mathlib.Core.Bool.{true, false}
-use mathlib.Core.Logic.{◌⊎◌, inl, inr, ⊎_elim}
+use mathlib.Core.Logic.{inl, inr, ⊎_elim}
 use mathlib.Core.List.{List}
-use lib.ListN.{length, get_or}
-use lib.Dec.{ltb, eqb}
+use lib.Dec.{eqb}
 use borrow.Author.Tests.{eqb-true, eqb-false, le-ltb, ne_eqb}
 use Rattle.numbers.specs.Bytes.{part}
-use Rattle.numbers.specs.Format.{var_uint_of}
 use Rattle.numbers.specs.Answers.{unsigned}
 use Rattle.numbers.proofs.Outcomes.{by_case}
 use Rattle.numbers.proofs.Meaning.{var-uint-complete, var_uint_small}
@@ -18,10 +16,9 @@ use Rattle.framing.specs.Spans.{Spans}
 use Rattle.framing.specs.Format.{type_at, code_at, CodeLength, short, long, ValueLength, none, null, coded, ordered, ValueType, typed, null_null, Legal, TypedValue}
 use Rattle.values.specs.Scalars.{is_container}
 use Rattle.encoding.specs.Fields.{var_uint_size}
-use Rattle.encoding.specs.Heads.{head_size}
 use Rattle.encoding.specs.Meaning.{Writable}
 use Rattle.encoding.proofs.VarUInts.{var_uint_grows, var-uint-shortest}
-use Rattle.encoding.proofs.Heads.{head-shortest, head_grows, head_some, head_short}
+use Rattle.encoding.proofs.Heads.{head-shortest, head_grows, head_short}
 use Rattle.numbers.proofs.Parts.{part_length}
 use Rattle.packing.specs.Tree.{lengthless, ordered_byte, kept_byte}
 use Rattle.packing.specs.Private.Sizes.{header_size}

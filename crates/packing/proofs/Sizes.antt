@@ -2,16 +2,15 @@
 -- Assumes nothing.
 use Prim.Native.Nat.{ℕ, ◌+◌, ◌*◌, ◌/◌, ◌%◌, ◌≤◌, ◌<◌}
 use native.Mathlib.Omega.{arith}
-use mathlib.Core.Path.{◌≡◌, refl, ◌∙◌, sym, ap}
+use mathlib.Core.Path.{◌≡◌, refl, ◌∙◌, ap}
 use mathlib.Core.Bool.{Bool, true, false}
 use mathlib.Core.List.{List, [], ◌∷◌, ◌++◌}
 use lib.ListN.{length, length-append}
 use lib.Dec.{ltb, eqb}
-use borrow.Author.Tests.{ltb-true, ltb-false, eqb-true, eqb-false, lt-ltb, le-ltb, eq-eqb, ne_eqb}
-use Rattle.numbers.specs.Outcome.{pick}
+use borrow.Author.Tests.{lt-ltb, le-ltb, eq-eqb, ne_eqb}
 use Rattle.numbers.proofs.Outcomes.{by_test, by_case}
 use Rattle.encoding.specs.Fields.{var_uint_size, var_uint_bytes}
-use Rattle.encoding.specs.Heads.{head_bytes, head_size, wrapped_bytes, wrapper_bytes}
+use Rattle.encoding.specs.Heads.{head_bytes, head_size, wrapped_bytes}
 use Rattle.encoding.proofs.VarUInts.{bytes_size}
 use Rattle.encoding.proofs.Heads.{head_length, head_some, wrapped_length, wrapper_length}
 use Rattle.packing.specs.Tree.{Head, lengthless, ordered_byte, empty_struct, kept_byte, header_of, wrapping, written}

@@ -1,13 +1,13 @@
 -- The theorems of specs/Theorems.antt: a map's tree is lawful, so that its bytes are read back as it, and they are no longer than the map.
 -- Assumes nothing.
-use Prim.Native.Nat.{ℕ, zero, suc, ◌+◌, ◌-◌, ◌≤◌}
+use Prim.Native.Nat.{ℕ, zero, suc, ◌+◌}
 use native.Mathlib.Omega.{arith}
 use mathlib.Core.Path.{◌≡◌, refl, ◌∙◌, sym, ap}
-use mathlib.Core.Bool.{true, false}
-use mathlib.Core.List.{List, []}
+use mathlib.Core.Bool.{true}
+use mathlib.Core.List.{List}
 use lib.ListN.{length}
 use lib.Seq.{take-length}
-use Rattle.numbers.specs.Outcome.{Outcome, gives, refuses}
+use Rattle.numbers.specs.Outcome.{refuses}
 use Rattle.numbers.specs.Bytes.{part}
 use Rattle.numbers.proofs.Outcomes.{by_case}
 use Rattle.framing.specs.Limits.{out_of_range}
@@ -17,7 +17,7 @@ use Rattle.stepping.specs.declared.cursor.Cursor.{Cursor}
 use Rattle.stepping.specs.declared.cursor.Rules.{Rules}
 use Rattle.stepping.specs.declared.cursor.Rules.TheVariants.{Stream}
 use Rattle.encoding.specs.Meaning.{StandsAt}
-use Rattle.packing.specs.Tree.{Tree, nothing, bytes_of}
+use Rattle.packing.specs.Tree.{nothing, bytes_of}
 use Rattle.packing.specs.Packed.{tree_on, tree_in, tree_of, packed}
 use Rattle.packing.specs.Theorems.{PackedShort, PackedTree, PackedTwice}
 use Rattle.packing.proofs.Lawful.{Packs, packs}

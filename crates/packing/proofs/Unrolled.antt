@@ -1,12 +1,11 @@
 -- A part's tree, one step at a time: with bytes enough their number makes no difference.
 -- Assumes nothing.
-use Prim.Native.Nat.{ℕ, zero, suc, ◌+◌, ◌-◌, ◌≤◌, ◌<◌}
+use Prim.Native.Nat.{ℕ, zero, suc, ◌-◌, ◌≤◌, ◌<◌}
 use native.Mathlib.Omega.{arith}
 use mathlib.Core.Path.{◌≡◌, refl, ◌∙◌, sym, ap}
-use mathlib.Core.Bool.{true, false}
 use mathlib.Core.List.{List, [], ◌∷◌, ◌++◌}
-use lib.ListN.{length, length-append}
-use Rattle.numbers.specs.Outcome.{Outcome, gives, refuses, pick}
+use lib.ListN.{length}
+use Rattle.numbers.specs.Outcome.{Outcome, gives, refuses}
 use Rattle.numbers.specs.Bytes.{part}
 use Rattle.numbers.proofs.Outcomes.{by_case}
 use Rattle.framing.specs.Limits.{out_of_range}
@@ -16,11 +15,11 @@ use Rattle.stepping.specs.Answers.{answer_at}
 use Rattle.stepping.specs.declared.cursor.Rules.{Rules}
 use Rattle.stepping.specs.declared.cursor.Rules.TheVariants.{Stream}
 use Rattle.values.specs.Scalars.{is_container, body_rules}
-use Rattle.packing.specs.Tree.{Tree, nothing, mark, leaf, branch, written, bytes_of}
-use Rattle.packing.specs.Packed.{head_of, node_of, tree_on, tree_in, tree_of, packed}
+use Rattle.packing.specs.Tree.{Tree, nothing, mark, bytes_of}
+use Rattle.packing.specs.Packed.{node_of, tree_on, tree_in, tree_of, packed}
 use Rattle.framing.specs.Read.{spans_of}
 use Rattle.framing.specs.declared.encoded_value.EncodedValue.{EncodedValue}
-use Rattle.packing.specs.Private.Items.{tree_at, bytes_at, body_bytes, value_bytes, tree_met, PlacedAt, HandedOut}
+use Rattle.packing.specs.Private.Items.{tree_at, bytes_at, body_bytes, value_bytes, tree_met, HandedOut}
 use Rattle.packing.specs.declared.size.Met.{Met}
 use Rattle.packing.specs.declared.size.Met.TheVariants.{Over, Marker, Value}
 use Rattle.packing.proofs.ReadBack.{over}

@@ -2,16 +2,14 @@
 -- Assumes nothing.
 use Prim.Native.Nat.{ℕ, ◌+◌, ◌-◌, ◌/◌, ◌^◌, ◌≤◌, ◌<◌}
 use native.Mathlib.Omega.{arith}
-use mathlib.Core.Path.{◌≡◌, refl, ◌∙◌, sym, ap, subst}
+use mathlib.Core.Path.{◌≡◌, ◌∙◌, sym, ap, subst}
 use mathlib.Core.Bool.{true, false}
 use mathlib.Core.List.{List}
-use lib.ListN.{length}
 use Rattle.numbers.specs.Bytes.{part}
 use Rattle.numbers.specs.Format.{var_uint_of}
 use Rattle.numbers.proofs.Parts.{part_length}
 use Rattle.framing.specs.Spans.{Spans}
 use Rattle.framing.specs.Format.{TypedValue, AnnotationWrapper, ValueBytes, plain, annotated}
-use Rattle.framing.specs.Format as format
 use Rattle.framing.specs.Meaning.{Within}
 use Rattle.values.specs.Scalars.{is_container}
 use Rattle.encoding.specs.Fields.{var_uint_size}

@@ -1,6 +1,6 @@
 -- What is met and how it is packed, as the packing goes on with it.
 -- Assumes nothing.
-use Rattle.std.specs.Prelude.{ℕ, ◌+◌, ◌-◌, ◌≤◌, ◌<◌, List, [], length}
+use Rattle.std.specs.Prelude.{ℕ, ◌+◌, ◌-◌, ◌≤◌, ◌<◌, List, length}
 use Rattle.numbers.specs.Bytes.{part}
 use Rattle.numbers.specs.Outcome.{pick}
 use Rattle.framing.specs.Spans.{Spans}

@@ -1,5 +1,4 @@
 -- `bounded_by_kind` meets its contract: its tests are the definition's.
-use borrow.Author.Rules.{rules}
 use borrow.Author.Tests.{lt-ltb, le-ltb}
 use native.Mathlib.Omega.{arith}
 use mathlib.Core.Path.{◌≡◌, ◌∙◌, sym, ap}

@@ -1,5 +1,4 @@
 -- `bounded_words` meets its contract: each arm is a case of the words.
-use borrow.Author.Rules.{rules}
 use mathlib.Core.Path.{◌∙◌, sym, ap}
 use Rattle.counting.specs.Read.{bounded_read}
 use Rattle.counting.specs.declared.counted.Bounded.{Bounded as BoundedEnum}

@@ -1,5 +1,4 @@
 -- `ion_map_step_bounded` meets its contract: the record of the bounded step and its number, 51 first.
-use borrow.Author.Rules.{rules}
 use Prim.Native.Nat.{ℕ}
 use mathlib.Core.Path.{◌∙◌, ap}
 use mathlib.Core.List.{List}

@@ -1,5 +1,4 @@
 -- `bytes_words` meets its contract: each arm is a case of the words.
-use borrow.Author.Rules.{rules}
 use mathlib.Core.Path.{◌∙◌, sym, ap}
 use Rattle.packing.specs.Read.{size_read}
 use Rattle.packing.specs.declared.size.PackedSize.{PackedSize}

@@ -1,6 +1,5 @@
 -- `ion_map_pack` meets its contract: 51 before anything is written, then the packed map, its record and what it returns.
-use borrow.Author.Rules.{rules}
-use mathlib.Core.Path.{◌≡◌, ◌∙◌, ap}
+use mathlib.Core.Path.{◌∙◌, ap}
 use mathlib.Core.List.{List}
 use Prim.Native.Nat.{ℕ}
 use lib.ListN.{length}

@@ -1,5 +1,4 @@
 -- `ion_map_packed_size` meets its contract: the record of the size and what it returns, 51 first.
-use borrow.Author.Rules.{rules}
 use mathlib.Core.Path.{◌∙◌, ap}
 use mathlib.Core.List.{List}
 use Prim.Native.Nat.{ℕ}

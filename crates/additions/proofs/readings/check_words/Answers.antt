@@ -1,6 +1,5 @@
 -- `check_words` meets its contract: the counts, or the refusal.
-use borrow.Author.Rules.{rules}
-use mathlib.Core.Path.{◌≡◌, ◌∙◌, sym, ap}
+use mathlib.Core.Path.{◌∙◌, sym, ap}
 use Rattle.records.specs.Words.{check_words}
 use Rattle.checking.specs.Read.{verdict_read}
 use Rattle.checking.specs.declared.item.Verdict.{Verdict}

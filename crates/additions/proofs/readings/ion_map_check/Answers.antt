@@ -1,6 +1,5 @@
 -- `ion_map_check` meets its contract: the record of the check and what it returns, 51 first.
-use borrow.Author.Rules.{rules}
-use mathlib.Core.Path.{◌≡◌, ◌∙◌, ap}
+use mathlib.Core.Path.{◌∙◌, ap}
 use mathlib.Core.List.{List}
 use Prim.Native.Nat.{ℕ}
 use Rattle.records.specs.Buffer.{check_in, check_returned_by}

@@ -1,5 +1,4 @@
 -- `ion_map_ids` meets its contract: its test is the definition's.
-use borrow.Author.Rules.{rules}
 use borrow.Author.Tests.{lt-ltb, le-ltb}
 use Rattle.additions.specs.Exported.{exported_ids}
 use Rattle.additions.proofs.readings.ion_map_ids.Goals as goal

@@ -1,5 +1,4 @@
 -- `ion_map_timestamp` meets its contract: the record of the reading and its number, 51 first.
-use borrow.Author.Rules.{rules}
 use mathlib.Core.Path.{◌∙◌, ap}
 use mathlib.Core.List.{List}
 use Prim.Native.Nat.{ℕ}

@@ -5,7 +5,7 @@ use mathlib.Core.Path.{◌≡◌, ◌∙◌, sym, ap}
 use mathlib.Core.Bool.{false}
 use mathlib.Core.List.{List}
 use lib.ListN.{length}
-use Rattle.numbers.specs.Outcome.{Outcome, gives, refuses, and_then}
+use Rattle.numbers.specs.Outcome.{Outcome, gives, and_then}
 use Rattle.numbers.proofs.Outcomes.{each_of}
 use Rattle.framing.specs.Limits.{out_of_range}
 use Rattle.framing.specs.Read.{spans_of}
@@ -39,9 +39,12 @@ check_part-loop-past-preserved-in-Marker t c =
     let a = c.args in
     let p = c.requires in
     let l = c.loop-past in
-    let f = c.in-Marker.ensures.fits in
-    (f.1, f.2, part_after a.limit a.s.now p.2 a.rules a.room a.end a.at l.from a.counts.now l.counts c.meet.new.counts (Marker c.in-Marker.past) l.invariant.0 p.1 l.invariant.2
-      (c.in-Marker.ensures.meets (full a.limit a.s.now) (full a.limit a.s.now a.rules a.room a.end) a.room))
+    let f = c.in-Marker.ensures.fits in (
+      f.1,
+      f.2,
+      part_after a.limit a.s.now p.2 a.rules a.room a.end a.at l.from a.counts.now l.counts c.meet.new.counts (Marker c.in-Marker.past) l.invariant.0 p.1 l.invariant.2
+          (c.in-Marker.ensures.meets (full a.limit a.s.now) (full a.limit a.s.now a.rules a.room a.end) a.room),
+    )
 
 pub check_part-loop-past-preserved : goal.check_part-loop-past-preserved
 check_part-loop-past-preserved t c =
@@ -52,11 +55,13 @@ check_part-loop-past-preserved t c =
     let d = c.meet.new.counts in
     let f = c.in-Value.ensures.fits in
     let e : gives c.check_value.new.counts ≡ value_check a.s.now (full a.limit a.s.now) a.room v d = c.in-Accepted.ensures in
-    let k = v.end - v.body in
-    (f.1, each_of (value_below a.s.now k (full a.limit a.s.now) (full_below a.s.now a.limit k) a.room v.descriptor v.end v d (placed_in a.s.now v f.2) f.2.within (omega arith) f.3) (sym e),
+    let k = v.end - v.body in (
+      f.1,
+      each_of (value_below a.s.now k (full a.limit a.s.now) (full_below a.s.now a.limit k) a.room v.descriptor v.end v d (placed_in a.s.now v f.2) f.2.within (omega arith) f.3) (sym e),
       ap (λ (o : Outcome (List ℕ)). and_then o (full a.limit a.s.now a.rules a.room a.end v.end)) e
-      ∙ part_after a.limit a.s.now p.2 a.rules a.room a.end a.at l.from a.counts.now l.counts d (Value c.in-Value.value) l.invariant.0 p.1 l.invariant.2
-      (c.in-Value.ensures.meets (full a.limit a.s.now) (full a.limit a.s.now a.rules a.room a.end) a.room))
+          ∙ part_after a.limit a.s.now p.2 a.rules a.room a.end a.at l.from a.counts.now l.counts d (Value c.in-Value.value) l.invariant.0 p.1 l.invariant.2
+          (c.in-Value.ensures.meets (full a.limit a.s.now) (full a.limit a.s.now a.rules a.room a.end) a.room),
+    )
 
 pub check_part-returns-in-Refused-check_value : goal.check_part-returns-in-Refused-check_value
 check_part-returns-in-Refused-check_value t c =

@@ -1,6 +1,6 @@
 -- The cycle of calls {check_part, check_value}: a part's check goes on behind each item as from its start. A value's inside has less room than the value, so
 -- the measures are twice the room for a value and one more for a part.
-use Rattle.std.proofs.Common.{◌≡◌, ◌≤◌, ◌+◌, ◌-◌, ◌*◌}
+use Rattle.std.proofs.Common.{◌≡◌, ◌≤◌, ◌+◌, ◌-◌}
 use Rattle.checking.specs.Private.Items.{Below}
 use Rattle.checking.specs.Private.Whole.{full}
 use Rattle.checking.proofs.check.+check_part_check_value.Given as goal

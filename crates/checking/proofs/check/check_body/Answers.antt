@@ -1,5 +1,4 @@
 -- `check_body` meets its contract: 68 first, then the check of the part that is the whole body.
-use borrow.Author.Rules.{rules}
 use Prim.Native.Nat.{ℕ, ◌-◌}
 use native.Mathlib.Omega.{arith}
 use mathlib.Core.Path.{◌≡◌, refl, ◌∙◌, sym, ap}

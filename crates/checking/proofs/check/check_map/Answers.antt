@@ -1,5 +1,4 @@
 -- `check_map` meets its contract: 68 first, then the check of the stream.
-use borrow.Author.Rules.{rules}
 use native.Mathlib.Omega.{arith}
 use mathlib.Core.Path.{◌≡◌, ◌∙◌, sym, ap}
 use Rattle.walking.proofs.Depths.{in_limit}

@@ -1,11 +1,10 @@
 -- `check_head` meets its contract: what is read of the value, then its count, then whether it opens.
-use borrow.Author.Rules.{rules}
-use Prim.Native.Nat.{ℕ, ◌-◌, ◌/◌, ◌≤◌, ◌<◌}
+use Prim.Native.Nat.{ℕ, ◌-◌, ◌/◌, ◌<◌}
 use native.Mathlib.Omega.{arith}
 use mathlib.Core.Path.{◌≡◌, ◌∙◌, sym, ap, subst}
 use mathlib.Core.List.{List}
 use lib.Dec.{ltb}
-use Rattle.numbers.specs.Outcome.{Outcome, gives, refuses, pick}
+use Rattle.numbers.specs.Outcome.{gives, refuses, pick}
 use Rattle.framing.specs.Read.{spans_of}
 use Rattle.stepping.specs.declared.cursor.Rules.{Rules}
 use Rattle.values.specs.Read.{body_read}

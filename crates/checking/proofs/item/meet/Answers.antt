@@ -1,19 +1,18 @@
 -- `meet` meets its contract: the pads that the step skips are counted, and then what it answers is taken by its kind.
-use borrow.Author.Rules.{rules}
-use Prim.Native.Nat.{ℕ, ◌+◌, ◌≤◌, ◌<◌}
+use Prim.Native.Nat.{ℕ, ◌+◌}
 use native.Mathlib.Omega.{arith}
-use mathlib.Core.Path.{◌≡◌, refl, ◌∙◌, sym, ap}
+use mathlib.Core.Path.{◌≡◌, ◌∙◌, sym, ap}
 use mathlib.Core.List.{List}
 use lib.ListN.{length, get_or}
-use Rattle.numbers.specs.Outcome.{Outcome, gives}
+use Rattle.numbers.specs.Outcome.{Outcome}
 use Rattle.framing.specs.Read.{spans_of}
-use Rattle.stepping.specs.Items.{Item, marker, value, field}
+use Rattle.stepping.specs.Items.{value, field}
 use Rattle.stepping.specs.Answers.{found}
 use Rattle.stepping.specs.Read.{item_read}
 use Rattle.stepping.specs.Runs.{cursor}
 use Rattle.stepping.specs.declared.cursor.Item.{Item as ItemEnum}
 use Rattle.counting.specs.Counted.{Counted, counted}
-use Rattle.checking.specs.Counts.{markers, pads, counting}
+use Rattle.checking.specs.Counts.{pads, counting}
 use Rattle.checking.specs.Check.{Parts, on_answer, on_found}
 use Rattle.checking.proofs.Places.{Behind, found_behind, found_typed}
 use Rattle.checking.proofs.Bounding.{met_value, met_marker, below_counting}
@@ -71,9 +70,9 @@ tally-requires-in-Marker c =
 
 pub returns-in-End : goal.returns-in-End
 returns-in-End c = record {
-      meets = checks (goal.at.returns-in-End c).After-tally c.in-End.is;
-      fits = tt;
-    }
+  meets = checks (goal.at.returns-in-End c).After-tally c.in-End.is;
+  fits = tt;
+}
 
 pub returns-in-Marker : goal.returns-in-Marker
 returns-in-Marker c =
@@ -113,6 +112,6 @@ returns-in-Field c =
 
 pub returns-in-Refused : goal.returns-in-Refused
 returns-in-Refused c = record {
-      meets = checks (goal.at.returns-in-Refused c).After-tally c.in-Refused.is;
-      fits = tt;
-    }
+  meets = checks (goal.at.returns-in-Refused c).After-tally c.in-Refused.is;
+  fits = tt;
+}

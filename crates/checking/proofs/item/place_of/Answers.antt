@@ -1,10 +1,5 @@
 -- `place_of` meets its contract: its test is the definition's.
-use borrow.Author.Rules.{rules}
 use borrow.Author.Tests.{le-ltb, lt-ltb}
-use mathlib.Core.Path.{◌≡◌, ◌∙◌, ap}
-use Prim.Native.Nat.{ℕ, ◌+◌}
-use lib.Dec.{ltb}
-use Rattle.numbers.specs.Outcome.{pick}
 use Rattle.checking.specs.Counts.{type_place}
 use Rattle.checking.proofs.item.place_of.Goals as goal
 

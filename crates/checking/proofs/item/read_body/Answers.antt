@@ -1,6 +1,5 @@
 -- `read_body` meets its contract: a decimal is split, a timestamp read, and of the others nothing is left to be read.
-use borrow.Author.Rules.{rules}
-use mathlib.Core.Path.{◌≡◌, ◌∙◌, sym, ap}
+use mathlib.Core.Path.{◌∙◌, sym, ap}
 use Rattle.numbers.specs.Outcome.{and_then}
 use Rattle.values.specs.Read.{scalar_read}
 use Rattle.values.specs.declared.value.Scalar.{Scalar}

@@ -1,11 +1,9 @@
 -- `read_ids` meets its contract: reading the IDs from each one on is reading them from the first on.
-use borrow.Author.Rules.{rules}
-use Prim.Native.Nat.{ℕ, ◌-◌, ◌≤◌, ◌<◌}
 use native.Mathlib.Omega.{arith}
-use mathlib.Core.Path.{◌≡◌, refl, ◌∙◌, sym, ap, subst}
+use mathlib.Core.Path.{◌≡◌, refl, ◌∙◌, sym, ap}
 use Rattle.numbers.specs.Outcome.{Outcome, and_then}
 use Rattle.numbers.proofs.Outcomes.{each_of}
-use Rattle.framing.specs.Answers.{Annotated, read_annotation}
+use Rattle.framing.specs.Answers.{Annotated}
 use Rattle.framing.specs.Read.{annotation_read}
 use Rattle.framing.specs.declared.annotations_iterator.Annotation.{Annotation}
 use Rattle.checking.specs.Reading.{Done, on_id, read_ids}

@@ -1,6 +1,5 @@
 -- `read_item` meets its contract: the IDs first, then the scalar.
-use borrow.Author.Rules.{rules}
-use mathlib.Core.Path.{◌≡◌, ◌∙◌, sym, ap}
+use mathlib.Core.Path.{◌∙◌, sym, ap}
 use Rattle.numbers.specs.Outcome.{Outcome, and_then}
 use Rattle.framing.specs.Read.{spans_of}
 use Rattle.values.specs.Scalars.{Scalar}

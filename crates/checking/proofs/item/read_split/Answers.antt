@@ -1,5 +1,4 @@
 -- `read_split` meets its contract: a decimal that is split gives no refusal.
-use borrow.Author.Rules.{rules}
 use Rattle.numbers.proofs.Outcomes.{then_by}
 use Rattle.bodies.specs.Decimal.{decimal_read}
 use Rattle.checking.specs.Reading.{as_done}

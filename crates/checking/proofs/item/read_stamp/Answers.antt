@@ -1,5 +1,4 @@
 -- `read_stamp` meets its contract: a timestamp that is read gives no refusal.
-use borrow.Author.Rules.{rules}
 use Rattle.numbers.proofs.Outcomes.{then_by}
 use Rattle.timestamps.specs.Timestamp.{timestamp_read}
 use Rattle.checking.specs.Reading.{as_done}

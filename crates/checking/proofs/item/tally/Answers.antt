@@ -1,5 +1,4 @@
 -- `tally` meets its contract.
-use borrow.Author.Rules.{rules}
 use mathlib.Core.Path.{refl}
 use Rattle.checking.specs.Counts.{counting}
 use Rattle.checking.proofs.item.tally.Goals as goal

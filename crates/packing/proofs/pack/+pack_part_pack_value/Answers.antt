@@ -1,6 +1,6 @@
 -- The cycle of calls {pack_part, pack_value}: what is met is stored, and what is left of the part is stored behind it.
 use native.Mathlib.Omega.{arith}
-use Prim.Native.Nat.{ℕ, ◌+◌, ◌-◌, ◌≤◌, ◌<◌}
+use Prim.Native.Nat.{ℕ, ◌+◌, ◌-◌, ◌≤◌}
 use mathlib.Core.Path.{◌≡◌, refl, ◌∙◌, sym, ap}
 use mathlib.Core.Bool.{true, false}
 use mathlib.Core.List.{List, [], ◌∷◌, ◌++◌}
@@ -13,10 +13,9 @@ use Rattle.framing.specs.Read.{spans_of}
 use Rattle.stepping.specs.declared.cursor.Rules.{Rules}
 use Rattle.values.specs.Scalars.{is_container, body_rules}
 use Rattle.encoding.proofs.Stores.{sets_more}
-use Rattle.packing.specs.Tree.{kept_byte, written}
+use Rattle.packing.specs.Tree.{written}
 use Rattle.packing.specs.Packed.{head_of}
-use Rattle.packing.specs.Private.Sizes.{value_size}
-use Rattle.packing.specs.Private.Items.{tree_at, bytes_at, body_bytes, value_bytes, HandedOut}
+use Rattle.packing.specs.Private.Items.{tree_at, bytes_at, body_bytes, value_bytes}
 use Rattle.packing.specs.declared.size.Met.TheVariants.{Over, Marker, Value}
 use Rattle.packing.proofs.Places.{held_body, scalar_body, scalar_size, sized-by, handed_alone}
 use Rattle.packing.proofs.Unrolled.{met_bytes, over_bytes, past_bytes, behind_bytes}
@@ -66,9 +65,13 @@ pack_part-loop-major-preserved-in-Marker t c =
     let f = m.ensures.fits in
     let first : List ℕ = 224 ∷ m.major ∷ m.minor ∷ 234 ∷ [] in
     let rest : List ℕ = bytes_at a.limit a.s.now a.rules a.end m.past in
-    let e = met_bytes a.limit a.s.now a.rules a.end l.from l.invariant.1 c.requires.1 (Marker m.major m.minor m.past) (m.ensures.meets (tree_at a.limit a.s.now) (tree_at a.limit a.s.now a.rules a.end)) ∙ past_bytes a.limit a.s.now a.rules a.end m.major m.minor m.past in
-    (omega (arith, l.invariant.0, f.0), f.1, ap length c.put_marker.ensures ∙ simp length-sets l.invariant.2, omega (arith, ap length e, l.invariant.3),
-      one_stored l.out c.put_marker.new.out (sets a.out.now a.to (bytes_at a.limit a.s.now a.rules a.end a.at)) first rest l.next (l.next + 4) (bytes_at a.limit a.s.now a.rules a.end l.from) c.put_marker.ensures refl e l.invariant.4)
+    let e = met_bytes a.limit a.s.now a.rules a.end l.from l.invariant.1 c.requires.1 (Marker m.major m.minor m.past) (m.ensures.meets (tree_at a.limit a.s.now) (tree_at a.limit a.s.now a.rules a.end)) ∙ past_bytes a.limit a.s.now a.rules a.end m.major m.minor m.past in (
+      omega (arith, l.invariant.0, f.0),
+      f.1,
+      ap length c.put_marker.ensures ∙ simp length-sets l.invariant.2,
+      omega (arith, ap length e, l.invariant.3),
+      one_stored l.out c.put_marker.new.out (sets a.out.now a.to (bytes_at a.limit a.s.now a.rules a.end a.at)) first rest l.next (l.next + 4) (bytes_at a.limit a.s.now a.rules a.end l.from) c.put_marker.ensures refl e l.invariant.4,
+    )
 
 pub pack_part-pack_value-next-requires : goal.pack_part-pack_value-next-requires
 pack_part-pack_value-next-requires t c =
@@ -92,9 +95,13 @@ pack_part-loop-major-preserved t c =
     let first : List ℕ = value_bytes a.limit a.s.now from (spans_of v) in
     let rest : List ℕ = bytes_at a.limit a.s.now a.rules a.end v.end in
     let e = met_bytes a.limit a.s.now a.rules a.end l.from l.invariant.1 c.requires.1 (Value from v) (c.in-Value.ensures.meets (tree_at a.limit a.s.now) (tree_at a.limit a.s.now a.rules a.end)) ∙ behind_bytes a.limit a.s.now a.rules a.end from v in
-    let w = c.pack_value-next in
-    (omega (arith, l.invariant.0, p.low, p.named, p.started, p.annotated, p.bodied, p.ended), p.within, ap length w.ensures.out_after ∙ simp length-sets l.invariant.2, omega (arith, ap length e ∙ length-append first rest, l.invariant.3, w.ensures.value),
-      one_stored l.out w.new.out (sets a.out.now a.to (bytes_at a.limit a.s.now a.rules a.end a.at)) first rest l.next w.result (bytes_at a.limit a.s.now a.rules a.end l.from) w.ensures.out_after w.ensures.value e l.invariant.4)
+    let w = c.pack_value-next in (
+      omega (arith, l.invariant.0, p.low, p.named, p.started, p.annotated, p.bodied, p.ended),
+      p.within,
+      ap length w.ensures.out_after ∙ simp length-sets l.invariant.2,
+      omega (arith, ap length e ∙ length-append first rest, l.invariant.3, w.ensures.value),
+      one_stored l.out w.new.out (sets a.out.now a.to (bytes_at a.limit a.s.now a.rules a.end a.at)) first rest l.next w.result (bytes_at a.limit a.s.now a.rules a.end l.from) w.ensures.out_after w.ensures.value e l.invariant.4,
+    )
 
 pub pack_value-put_front-body-requires : goal.pack_value-put_front-body-requires
 pack_value-put_front-body-requires t c =

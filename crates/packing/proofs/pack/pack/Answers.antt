@@ -1,12 +1,8 @@
 -- `pack` meets its contract: the refusals of the size, 69, and then the stream packed from the buffer's start.
-use Prim.Native.Nat.{ℕ, ◌+◌, ◌≤◌}
 use native.Mathlib.Omega.{arith}
-use borrow.Author.Rules.{rules}
-use mathlib.Core.Path.{◌≡◌, refl, ◌∙◌, sym, ap}
-use mathlib.Core.List.{List}
+use mathlib.Core.Path.{◌≡◌, ◌∙◌, sym, ap}
 use lib.ListN.{length}
 use lib.Seq.{sets}
-use Rattle.numbers.specs.Outcome.{gives}
 use Rattle.packing.specs.Answers.{size_of}
 use Rattle.packing.specs.Read.{size_read}
 use Rattle.packing.specs.declared.size.PackedSize.{PackedSize}

@@ -1,9 +1,8 @@
 -- `put_front` meets its contract: the name, the wrapper and the header, one behind the other.
-use Prim.Native.Nat.{ℕ, ◌+◌, ◌-◌, ◌≤◌, ◌<◌}
+use Prim.Native.Nat.{ℕ, ◌+◌, ◌-◌, ◌≤◌}
 use native.Mathlib.Omega.{arith}
-use borrow.Author.Rules.{rules}
 use mathlib.Core.Path.{◌≡◌, refl, ◌∙◌, sym, ap, subst}
-use mathlib.Core.List.{List, [], ◌∷◌}
+use mathlib.Core.List.{List}
 use lib.ListN.{length}
 use lib.Seq.{sets, length-sets}
 use Rattle.numbers.specs.Bytes.{part}
@@ -13,7 +12,7 @@ use Rattle.framing.specs.Read.{spans_of}
 use Rattle.packing.specs.Tree.{Head, kept_byte, header_of}
 use Rattle.packing.specs.Packed.{head_of}
 use Rattle.packing.specs.Private.Sizes.{header_size, wrap_size, value_size}
-use Rattle.packing.specs.Private.Fronts.{wrap_front, front_of}
+use Rattle.packing.specs.Private.Fronts.{wrap_front}
 use Rattle.packing.proofs.Sizes.{wrap_least}
 use Rattle.packing.proofs.Fronts.{front_stored}
 use Rattle.packing.proofs.pack.put_front.Goals as goal

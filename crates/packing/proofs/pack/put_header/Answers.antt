@@ -1,9 +1,8 @@
 -- `put_header` meets its contract, by the kind of descriptor.
-use Prim.Native.Nat.{ℕ, ◌+◌, ◌/◌}
+use Prim.Native.Nat.{ℕ, ◌+◌}
 use native.Mathlib.Numerals.{add-one}
-use borrow.Author.Rules.{rules}
-use mathlib.Core.Path.{◌≡◌, ◌∙◌, sym, ap}
-use mathlib.Core.List.{List, [], ◌∷◌}
+use mathlib.Core.Path.{◌∙◌, sym, ap}
+use mathlib.Core.List.{List}
 use lib.ListN.{set}
 use lib.Seq.{sets}
 use Rattle.encoding.specs.Fields.{var_uint_bytes}

@@ -1,16 +1,15 @@
 -- `put_scalar` meets its contract: what goes before the body, and the body.
-use Prim.Native.Nat.{ℕ, ◌+◌, ◌-◌, ◌≤◌, ◌<◌}
+use Prim.Native.Nat.{ℕ, ◌+◌, ◌-◌, ◌≤◌}
 use native.Mathlib.Omega.{arith}
-use borrow.Author.Rules.{rules}
-use mathlib.Core.Path.{◌≡◌, refl, ◌∙◌, sym, ap, subst}
-use mathlib.Core.List.{List, [], ◌∷◌}
+use mathlib.Core.Path.{◌≡◌, ◌∙◌, sym, ap}
+use mathlib.Core.List.{List}
 use lib.ListN.{length}
 use lib.Seq.{sets}
 use Rattle.numbers.specs.Bytes.{part}
 use Rattle.numbers.proofs.Parts.{part_length, part_taken}
 use Rattle.framing.specs.Spans.{Spans}
 use Rattle.framing.specs.Read.{spans_of}
-use Rattle.packing.specs.Tree.{Head, kept_byte, written}
+use Rattle.packing.specs.Tree.{kept_byte, written}
 use Rattle.packing.specs.Packed.{head_of}
 use Rattle.packing.specs.Private.Sizes.{value_size}
 use Rattle.packing.specs.Private.Fronts.{front_of}

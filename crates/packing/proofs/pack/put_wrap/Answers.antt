@@ -1,9 +1,8 @@
 -- `put_wrap` meets its contract: the wrapper's header, the annotations' length and the annotations, one behind the other.
 use Prim.Native.Nat.{ℕ, ◌+◌, ◌-◌, ◌≤◌, ◌<◌}
 use native.Mathlib.Omega.{arith}
-use borrow.Author.Rules.{rules}
-use mathlib.Core.Path.{◌≡◌, refl, ◌∙◌, sym, ap}
-use mathlib.Core.List.{List, [], ◌∷◌}
+use mathlib.Core.Path.{◌≡◌, ◌∙◌, sym, ap}
+use mathlib.Core.List.{List}
 use lib.ListN.{length}
 use lib.Seq.{sets}
 use Rattle.numbers.specs.Bytes.{part}
@@ -11,7 +10,6 @@ use Rattle.numbers.proofs.Parts.{part_length, part_taken}
 use Rattle.encoding.specs.Fields.{var_uint_size, var_uint_bytes}
 use Rattle.encoding.specs.Heads.{head_bytes, head_size}
 use Rattle.packing.specs.Private.Sizes.{wrap_size}
-use Rattle.packing.specs.Private.Fronts.{wrap_front}
 use Rattle.packing.proofs.Sizes.{wrap_none}
 use Rattle.packing.proofs.Fronts.{wrap_summed, front_none, wrap_stored}
 use Rattle.packing.proofs.pack.put_wrap.Goals as goal

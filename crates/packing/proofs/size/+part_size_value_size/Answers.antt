@@ -1,17 +1,15 @@
 -- The cycle of calls {part_size, value_size}: what is met has its bytes at the front of what is left of the part.
 use native.Mathlib.Omega.{arith}
-use Prim.Native.Nat.{ℕ, ◌+◌, ◌-◌, ◌^◌, ◌≤◌, ◌<◌}
+use Prim.Native.Nat.{ℕ, ◌-◌, ◌≤◌}
 use mathlib.Core.Path.{◌≡◌, ◌∙◌, sym, ap}
-use mathlib.Core.Bool.{true, false}
+use mathlib.Core.Bool.{true}
 use mathlib.Core.List.{List}
 use lib.ListN.{length, length-append}
 use Rattle.framing.specs.Spans.{Spans}
 use Rattle.framing.specs.Read.{spans_of}
-use Rattle.stepping.specs.Answers.{answer_at}
 use Rattle.stepping.specs.declared.cursor.Rules.{Rules}
 use Rattle.values.specs.Scalars.{is_container, body_rules}
-use Rattle.packing.specs.Tree.{bytes_of}
-use Rattle.packing.specs.Private.Items.{tree_at, bytes_at, body_bytes, value_bytes, tree_met, HandedOut}
+use Rattle.packing.specs.Private.Items.{tree_at, bytes_at, body_bytes, value_bytes}
 use Rattle.packing.specs.declared.size.Met.TheVariants.{Over, Marker, Value}
 use Rattle.packing.proofs.Places.{part_short, held_body, scalar_size, sized-by}
 use Rattle.packing.proofs.Unrolled.{met_bytes, over_bytes, past_bytes, behind_bytes}

@@ -1,7 +1,7 @@
 -- `body_rules` meets its contract: a struct's body is of fields.
 use mathlib.Core.Path.{◌≡◌, sym}
 use borrow.Author.Tests.{eq-eqb, ne_eqb}
-use Prim.Native.Nat.{ℕ, ◌/◌}
+use Prim.Native.Nat.{◌/◌}
 use Rattle.framing.specs.Spans.{Spans}
 use Rattle.framing.specs.Read.{spans_of}
 use Rattle.stepping.specs.declared.cursor.Rules.TheVariants.{Sequence, Fields}

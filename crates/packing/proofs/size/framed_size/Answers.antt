@@ -1,7 +1,6 @@
 -- `framed_size` meets its contract: no sum on the way exceeds the last.
-use Prim.Native.Nat.{ℕ, ◌+◌, ◌-◌, ◌^◌, ◌≤◌, ◌<◌}
+use Prim.Native.Nat.{ℕ, ◌+◌, ◌-◌, ◌^◌, ◌<◌}
 use native.Mathlib.Omega.{arith}
-use borrow.Author.Rules.{rules}
 use mathlib.Core.Path.{◌≡◌, refl, ◌∙◌, sym, ap, subst}
 use Rattle.packing.specs.Tree.{kept_byte}
 use Rattle.packing.specs.Private.Sizes.{header_size, wrap_size, value_size}

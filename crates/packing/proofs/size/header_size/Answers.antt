@@ -1,8 +1,7 @@
 -- `header_size` meets its contract, by the kind of descriptor.
 use Prim.Native.Nat.{ℕ}
 use native.Mathlib.Omega.{arith}
-use borrow.Author.Rules.{rules}
-use mathlib.Core.Path.{◌≡◌, ◌∙◌, sym, ap}
+use mathlib.Core.Path.{◌∙◌, sym, ap}
 use Rattle.encoding.proofs.VarUInts.{size_high}
 use Rattle.packing.specs.Private.Sizes.{header_size}
 use Rattle.packing.proofs.Sizes.{bare_size, ordered_size, coded_size}

@@ -1,9 +1,7 @@
 -- `kept_byte` meets its contract, by the kind of descriptor.
 use Prim.Native.Nat.{ℕ}
 use native.Mathlib.Omega.{arith}
-use borrow.Author.Rules.{rules}
-use mathlib.Core.Path.{◌≡◌, ◌∙◌, sym, ap}
-use mathlib.Core.Bool.{true, false}
+use mathlib.Core.Path.{◌∙◌, sym, ap}
 use Rattle.packing.specs.Tree.{kept_byte, ordered_byte}
 use Rattle.packing.proofs.Sizes.{bare_kept, ordered_kept, ordered_emptied, coded_kept}
 use Rattle.packing.proofs.size.kept_byte.Goals as goal

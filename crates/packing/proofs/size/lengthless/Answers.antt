@@ -1,7 +1,7 @@
 -- `lengthless` meets its contract, test by test.
 use Prim.Native.Nat.{ℕ, ◌/◌, ◌%◌, ◌≤◌}
 use mathlib.Core.Path.{◌≡◌, sym}
-use lib.Dec.{ltb, eqb}
+use lib.Dec.{eqb}
 use borrow.Author.Tests.{le-ltb}
 use Rattle.packing.specs.Tree.{lengthless}
 use Rattle.packing.proofs.Sizes.{low_lengthless}

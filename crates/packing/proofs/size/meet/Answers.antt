@@ -1,9 +1,7 @@
 -- `meet` meets its contract: what the step answers, taken apart.
 use Prim.Native.Nat.{ℕ}
-use borrow.Author.Rules.{rules}
 use mathlib.Core.Path.{◌≡◌, ◌∙◌, sym, ap}
 use mathlib.Core.List.{List}
-use Rattle.numbers.specs.Bytes.{part}
 use Rattle.numbers.proofs.Parts.{part_none}
 use Rattle.framing.specs.Read.{spans_of}
 use Rattle.stepping.specs.Items.{marker, value, field}

@@ -1,12 +1,8 @@
 -- `packed_size` meets its contract: the check's refusal, or behind it the size of the stream.
-use Prim.Native.Nat.{ℕ}
-use borrow.Author.Rules.{rules}
 use mathlib.Core.Path.{◌≡◌, ◌∙◌, sym, ap}
-use mathlib.Core.List.{List}
 use lib.ListN.{length}
-use Rattle.numbers.specs.Outcome.{Outcome, gives, and_then}
+use Rattle.numbers.specs.Outcome.{gives, and_then}
 use Rattle.checking.specs.Answers.{Answer}
-use Rattle.checking.specs.Check.{whole_check}
 use Rattle.checking.specs.Read.{verdict_read}
 use Rattle.checking.specs.declared.item.Verdict.{Verdict}
 use Rattle.packing.specs.Answers.{sized, size_of}

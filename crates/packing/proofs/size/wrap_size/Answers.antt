@@ -1,7 +1,6 @@
 -- `wrap_size` meets its contract: no sum on the way exceeds the last.
 use Prim.Native.Nat.{ℕ, ◌+◌, ◌<◌}
 use native.Mathlib.Omega.{arith}
-use borrow.Author.Rules.{rules}
 use mathlib.Core.Path.{◌≡◌, ◌∙◌, sym, ap}
 use Rattle.encoding.specs.Fields.{var_uint_size}
 use Rattle.encoding.specs.Heads.{head_size}
