@@ -16,6 +16,7 @@ use Rattle.numbers.proofs.Outcomes.{Each, given, each_refuse, each_pick, each_wi
 use Rattle.numbers.proofs.Meaning.{var_uint_bounded}
 use Rattle.framing.specs.Answers.{peeked_descriptor, Sized, length_at, length_tests, value_length, fitting, value_without_annotations, padded, pad_at, Wrapping, wrapper_tests, annotations_at, wrapper_at, inner_value, wrapped, unwrapped, annotated_value, value_at, bad_float, short_timestamp, empty_ordered, no_value, is_pad, is_wrapper, read_value, Frame, padding, valued, frame_at, read_frame}
 use Rattle.framing.specs.Spans.{Spans, Padding}
+use Rattle.framing.proofs.WrapperTests.{WrapperAt, wrapper_tests_each}
 
 -- a descriptor is one of the part
 pub record PeekedAt (s : List ℕ) (at end : ℕ) (d : TypeDescriptor) : Type 0 where
@@ -99,32 +100,10 @@ pad_each s at end d h =
       within = omega (arith, ltb-false (end - l.body) l.size f, b.high);
     })))
 
--- a wrapper's value stands in the part, past at least one byte of annotations, and is to have a byte at least
-pub record WrapperAt (limit : ℕ) (at end : ℕ) (w : Wrapping) : Type 0 where
-  pub low : at < w.annotations
-  pub some : w.annotations < w.value
-  pub few : w.value ≤ w.annotations + limit
-  pub high : w.value ≤ end
-  pub more : 0 < w.expected
-
 pub wrapper_each : (limit : ℕ) (s : List ℕ) (at end : ℕ) (d : TypeDescriptor) → at < end → Each (WrapperAt limit at end) (wrapper_at limit s at end d)
-unfolding wrapper_at annotations_at wrapper_tests
+unfolding wrapper_at
 wrapper_each limit s at end d h =
-    each_then (length_each s (at + 1) end d.length_code (omega arith)) (λ l b.
-    each_then (var_uint_bounded s l.body end) (λ u n.
-    each_refuse (eqb u.value 0) 23 at (λ z.
-    each_refuse (ltb l.size (u.next - l.body + u.value)) 24 at (λ x.
-    each_refuse (eqb l.size (u.next - l.body + u.value)) 25 at (λ y.
-    each_refuse (ltb limit u.value) 26 at (λ m.
-    each_refuse (ltb (end - u.next) u.value) 5 u.next (λ f.
-    given
-    (record {
-      low = omega (arith, b.low, n.begins);
-      some = omega (arith, eqb-false u.value 0 z);
-      few = omega (arith, ltb-false limit u.value m);
-      high = omega (arith, ltb-false (end - u.next) u.value f, n.ends);
-      more = omega (arith, ltb-false l.size (u.next - l.body + u.value) x, eqb-false l.size (u.next - l.body + u.value) y);
-    }))))))))
+    each_then (length_each s (at + 1) end d.length_code (omega arith)) (λ l b. wrapper_tests_each limit s at end l b.low)
 
 pub inner_each : (s : List ℕ) (at end : ℕ) (d : TypeDescriptor) → at < end → Each (Ordered at end) (inner_value s at end d)
 unfolding inner_value

@@ -1,4 +1,5 @@
 pub mod Ranges
+pub mod WrapperTests
 pub mod Bounds
 pub mod Nibbles
 pub mod Soundness

@@ -11,6 +11,7 @@ use Rattle.numbers.specs.declared.type_descriptor.TypeDescriptor.{TypeDescriptor
 use Rattle.numbers.proofs.Outcomes.{Proper, gave, proper_refuse, proper_pick, proper_within, proper_then}
 use Rattle.numbers.proofs.Meaning.{var_uint_bounded, var_uint_proper}
 use Rattle.framing.specs.Answers.{peeked_descriptor, length_at, length_tests, value_length, fitting, value_without_annotations, padded, pad_at, wrapper_tests, annotations_at, wrapper_at, inner_value, wrapped, unwrapped, annotated_value, value_at, bad_float, short_timestamp, empty_ordered, no_value, is_pad, is_wrapper, frame_at, read_frame}
+use Rattle.framing.proofs.WrapperTests.{wrapper_tests_proper}
 use Rattle.framing.proofs.Bounds.{peeked_each, length_each, value_length_each, pad_each, wrapper_each, inner_peeked_each, value_each}
 
 module _ (limit : ℕ) (s : List ℕ) (end : ℕ) (k : end ≤ length s) where
@@ -42,15 +43,10 @@ module _ (limit : ℕ) (s : List ℕ) (end : ℕ) (k : end ≤ length s) where
       proper_refuse (ltb (end - l.body) l.size) 6 l.body (λ e. omega arith) (λ _. gave))
 
   wrapper_proper : (at : ℕ) (d : TypeDescriptor) → at < end → Proper (wrapper_at limit s at end d)
-  unfolding wrapper_at annotations_at wrapper_tests
+  unfolding wrapper_at
   wrapper_proper at d h =
       proper_then (length_each s (at + 1) end d.length_code (omega arith)) (length_proper (at + 1) d.length_code (omega arith)) (λ l b.
-      proper_then (var_uint_bounded s l.body end) (var_uint_proper s l.body end b.high k) (λ u n.
-      proper_refuse (eqb u.value 0) 23 at (λ e. omega arith) (λ _.
-      proper_refuse (ltb l.size (u.next - l.body + u.value)) 24 at (λ e. omega arith) (λ _.
-      proper_refuse (eqb l.size (u.next - l.body + u.value)) 25 at (λ e. omega arith) (λ _.
-      proper_refuse (ltb limit u.value) 26 at (λ e. omega arith) (λ _.
-      proper_refuse (ltb (end - u.next) u.value) 5 u.next (λ e. omega arith) (λ _. gave)))))))
+      wrapper_tests_proper limit s at end l b.high k)
 
   inner_proper : (at : ℕ) → at ≤ end → Proper (and_then (peeked_descriptor s at end) (inner_value s at end))
   unfolding inner_value

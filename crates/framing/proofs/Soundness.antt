@@ -22,6 +22,7 @@ use Rattle.framing.specs.Answers.{peeked_descriptor, Sized, length_at, value_cod
 use Rattle.framing.specs.Format.{type_at, code_at, CodeLength, short, long, ValueLength, none, null, coded, ordered, Legal, TypedValue, NopPadding, ValueBytes, plain, annotated}
 use Rattle.framing.specs.Meaning.{Within, ValuesSound, PadsSound}
 use Rattle.framing.proofs.Bounds.{peeked_each, SizedAt, length_each, plain_each, inner_peeked_each}
+use Rattle.framing.proofs.WrapperTests.{WrapperMeaning, lengths_sound}
 use Rattle.framing.proofs.Nibbles.{value-kind, wrapper_kind, pad_kind, PadKind}
 
 -- a VarUInt that was read is the field of code 14
@@ -184,58 +185,17 @@ inner_sound s at end =
     (each_refuse (is_wrapper (here s at).kind) 27 at (λ _.
     each_refuse (is_pad (here s at).kind) 28 at (λ _. plain_sound s at end b.before b.inside))))
 
--- a wrapper's two lengths, and what they leave to its value
-pub record WrapperMeaning (limit : ℕ) (s : List ℕ) (at end : ℕ) (w : Wrapping) : Type 0 where
-  pub combined : ℕ
-  pub after : ℕ
-  pub field : CodeLength s (at + 1) end after (code_at s at) combined
-  pub low : at < after
-  pub count : NumberAt s after end w.annotations
-  pub size : w.value ≡ w.annotations + var_uint_of (part s after w.annotations)
-  pub some : w.annotations < w.value
-  pub left : combined ≡ w.expected + (w.value - after)
-  pub near : after ≤ at + 1 + most_bytes
-  pub close : w.annotations ≤ after + most_bytes
-  pub few : w.value ≤ w.annotations + limit
-
--- the tests of a wrapper's lengths
-lengths_sound : (limit : ℕ) (s : List ℕ) (at end : ℕ) (l : Sized) → SizedAt (at + 1) end l → (0 < l.size → CodeLength s (at + 1) end l.body (code_at s at) l.size) → Each (WrapperMeaning limit s at end) (annotations_at limit s at end l)
-unfolding annotations_at wrapper_tests
-lengths_sound limit s at end l z field =
-    each_then (var_uint_each s l.body end) (λ u r.
-    let begins : l.body < u.next = rw r.is r.number.begins in
-    each_refuse (eqb u.value 0) 23 at (λ a.
-    each_refuse (ltb l.size (u.next - l.body + u.value)) 24 at (λ b.
-    each_refuse (eqb l.size (u.next - l.body + u.value)) 25 at (λ c.
-    each_refuse (ltb limit u.value) 26 at (λ e.
-    each_refuse (ltb (end - u.next) u.value) 5 u.next (λ d.
-    let more : u.next - l.body + u.value ≤ l.size = ltb-false l.size _ b in
-    given
-    (record {
-      combined = l.size;
-      after = l.body;
-      field = field (omega arith);
-      low = omega (arith, z.low);
-      count = subst (λ (x : Unsigned). NumberAt s l.body end x.next) (sym r.is) r.number;
-      size = ap (λ (n : ℕ). u.next + n) (subst (λ (x : Unsigned). x.value ≡ var_uint_of (part s l.body x.next)) (sym r.is) refl);
-      some = omega (arith, eqb-false u.value 0 a);
-      left = omega arith;
-      near = z.near;
-      close = subst (λ (x : Unsigned). x.next ≤ l.body + most_bytes) (sym r.is) r.short;
-      few = omega (arith, ltb-false limit u.value e);
-    })))))))
-
 wrapper_sound : (limit : ℕ) (s : List ℕ) (at end : ℕ) → at < end → Each (WrapperMeaning limit s at end) (wrapper_at limit s at end (here s at))
 unfolding wrapper_at length_at descriptor_of
 wrapper_sound limit s at end h =
     by_case (eqb (code_at s at) 15)
     (λ e.
     rw e
-    (lengths_sound limit s at end (record { body = at + 1; size = 0 }) (record { low = omega arith; high = omega arith; near = omega arith }) (λ n. absurd (omega arith))))
+    (lengths_sound limit s at end (record { body = at + 1; size = 0 }) (omega arith) (omega arith) (λ n. absurd (omega arith))))
     (λ e.
     let c : code_at s at < 15 = omega (arith, mod-lt (get_or s at 0) {m = 16} (omega arith), eqb-false (code_at s at) 15 e) in
     each_then (each_both (code_sound s (at + 1) end (code_at s at) c) (length_each s (at + 1) end (code_at s at) (omega arith))) (λ l t.
-    lengths_sound limit s at end l t.1 (λ _. t.0)))
+    lengths_sound limit s at end l t.1.low t.1.near (λ _. t.0)))
 
 annotated_sound : (limit : ℕ) (s : List ℕ) (at end : ℕ) → at < end → is_wrapper (here s at).kind ≡ true → Each (λ v. (b : ValueBytes s at end v) × Within limit b) (annotated_value limit s at end (here s at))
 unfolding annotated_value unwrapped wrapped descriptor_of

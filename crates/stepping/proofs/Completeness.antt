@@ -24,6 +24,7 @@ use Rattle.stepping.specs.Format.{NameBytes, in_stream, in_sequence, in_fields, 
 use Rattle.stepping.specs.Meaning.{ItemWithin, Skips, arrived, passed, StepsComplete}
 use Rattle.stepping.specs.declared.cursor.Cursor.{Cursor}
 use Rattle.stepping.specs.declared.cursor.Rules.{Rules}
+use Rattle.stepping.proofs.MarkersFound.{marker_complete}
 use Rattle.stepping.proofs.PadSkipping.{Skipping, at-end, at_pad, at_item, of_skipping}
 
 -- E0 is of type 14 and length code 0, so that neither a pad nor a value begins with it
@@ -66,8 +67,7 @@ module _ (limit : ℕ) (s : List ℕ) (hi : ℕ) where
 
   item_complete : {rules : Rules} {a : ℕ} {i : Item} (t : ItemAt s hi rules a i) → ItemWithin limit t → (a < hi) × (hi ≤ length s) × (tile_at limit rules s a hi ≡ gives (hand i))
   unfolding tile_at framed_at named_at marker_at
-  item_complete (marker-at {a} e0 major minor ea fits within) l =
-      (omega arith, within, rw (eq-eqb (get_or s a 0) 224 e0, le-ltb (hi - a) 4 (omega arith), eq-eqb (get_or s (a + 3) 0) 234 ea, major, minor))
+  item_complete (marker-at {a} e0 major minor ea fits within) l = (omega arith, within, marker_complete limit s a hi e0 major minor ea fits)
   item_complete (value_in_stream {a} {v} b) l =
       let f = value_fits b in
       (f.0, f.1, rw (value_begins b, (values-complete limit s a hi v b l).1))

@@ -3,6 +3,7 @@ pub mod PadSkipping
 pub mod Spans
 pub mod Tiling
 pub mod Soundness
+pub mod MarkersFound
 pub mod Completeness
 pub mod Examples
 pub mod Moves
