@@ -37,7 +37,8 @@ use Rattle.records.specs.Theorems.{FirstBytes}
 use Rattle.batches.specs.Theorems.{RunsOfCalls, RecordsBegin}
 
 -- Of the machine's own calls: in every model of the machine, in every environment that has the functions' code, for whichever borrow lends the map.
-module _ (M : Type 1) (𝓤 : Ura M) (𝓛 : Logic 𝓤) (𝓜 : Model 𝓤 𝓛.H) (𝓡 : Running 𝓤 𝓛.H 𝓜) (entries : HasEntries 𝓡.env) (lookups : HasLookups 𝓡.env) (κs : Lfts 1) where
+module _ (M : Type 1) (𝓤 : Ura M) (𝓛 : Logic 𝓤) (𝓜 : Model 𝓤 𝓛.H) (𝓡 : Running 𝓤 𝓛.H 𝓜)
+    (entries : HasEntries 𝓡.env) (lookups : HasLookups 𝓡.env) (κs : Lfts 1) where
   -- 1, total: "Whoever calls a public entry, with any bytes and positions of any size, gets a result or a numbered refusal with its position, and the call
   -- ends." Every public function's contract says the first half; this says both of the machine, for the three steps, the annotation step, stepping in and the
   -- scalar reading.

@@ -1,4 +1,4 @@
-// The exported step, for a caller in another language, which lends a buffer for the answer's record.
+// The step as other languages call it, by the crate `maps_c`: a buffer is lent for the answer's record.
 //
 // `limit` is the most bytes that a value's annotations may have. This function, `ion_map_steps` of the crate `batches` and `ion_map_walked` of `walking` stand
 // apart, so that each is compiled with all that it calls for each item put in its place.

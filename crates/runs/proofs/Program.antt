@@ -45,7 +45,7 @@ use Rattle.stepping.proofs.cursor.Cursor.next_in_stream.Met as in-stream-met
 use Rattle.stepping.specs.contracts.cursor.Cursor.next_in_sequence as in-sequence
 use Rattle.stepping.proofs.cursor.Cursor.next_in_sequence.Symbol as in-sequence-symbol
 use Rattle.stepping.proofs.cursor.Cursor.next_in_sequence.Met as in-sequence-met
-use Rattle.stepping.specs.contracts.cursor.Cursor.next_in_struct as in_struct
+use Rattle.stepping.specs.contracts.cursor.Cursor.next_in_struct as in-struct
 use Rattle.stepping.proofs.cursor.Cursor.next_in_struct.Symbol as in-struct-symbol
 use Rattle.stepping.proofs.cursor.Cursor.next_in_struct.Met as in-struct-met
 use Rattle.values.specs.Scalars.{part_of, scalar_part}
@@ -160,9 +160,9 @@ module _ {M : Type 1} {𝓤 : Ura M} (𝓛 : Logic 𝓤) (𝓜 : Model 𝓤 𝓛
       machine.answered 𝓛 𝓜 𝓡 in-sequence.ended (𝓡.env in-sequence-symbol.name) (in-sequence.clauses 𝓛 𝓜.mem 𝓡.returns) (in-sequence-met.met 𝓤 𝓛 𝓜 (strict 𝓤 H 𝓜 𝓡) has.in_sequence) κs tt lowers step_read made read_made made_read one_value
       (c, (s, (limit, tt))) tt (step_of limit Sequence s.now c) (id⊢ 𝓤 (emp 𝓤)) (λ x ws. id⊢ 𝓤 (fact 𝓤 (step_read x ≡ step_of limit Sequence s.now c)))
 
-  in_struct_answers : (limit : ℕ) (s : Bor (List ℕ)) (c : Cursor) → Answered 𝓛 𝓜 in_struct.signature (𝓡.env in-struct-symbol.name) κs tt lowers (c, (s, (limit, tt))) (λ x. step_read x ≡ step_of limit Fields s.now c)
+  in_struct_answers : (limit : ℕ) (s : Bor (List ℕ)) (c : Cursor) → Answered 𝓛 𝓜 in-struct.signature (𝓡.env in-struct-symbol.name) κs tt lowers (c, (s, (limit, tt))) (λ x. step_read x ≡ step_of limit Fields s.now c)
   in_struct_answers limit s c =
-      machine.answered 𝓛 𝓜 𝓡 in_struct.ended (𝓡.env in-struct-symbol.name) (in_struct.clauses 𝓛 𝓜.mem 𝓡.returns) (in-struct-met.met 𝓤 𝓛 𝓜 (strict 𝓤 H 𝓜 𝓡) has.in_struct) κs tt lowers step_read made read_made made_read one_value
+      machine.answered 𝓛 𝓜 𝓡 in-struct.ended (𝓡.env in-struct-symbol.name) (in-struct.clauses 𝓛 𝓜.mem 𝓡.returns) (in-struct-met.met 𝓤 𝓛 𝓜 (strict 𝓤 H 𝓜 𝓡) has.in_struct) κs tt lowers step_read made read_made made_read one_value
       (c, (s, (limit, tt))) tt (step_of limit Fields s.now c) (id⊢ 𝓤 (emp 𝓤)) (λ x ws. id⊢ 𝓤 (fact 𝓤 (step_read x ≡ step_of limit Fields s.now c)))
 
   -- each answer of the program is the one that the rules define

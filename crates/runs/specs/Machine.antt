@@ -15,9 +15,9 @@ use denote.Triple.Entry.{Args, Vals, Res, on_entry}
 -- S is the function's signature and ρ its routine, and L says the machine's value of each result
 module _ {M : Type 1} {𝓤 : Ura M} (𝓛 : Logic 𝓤) (𝓜 : Model 𝓤 𝓛.H) (S : Signature) (ρ : Routine) (κs : Lfts S.lifetimes)
     (bounds : AllOutlive S.lifetimes S.outlives κs) (L : Lowered (type_at S.result κs)) where
-  -- in the memory σ the arguments a are passed to a call, as the machine values vss
   open 𝓛 use {H}
 
+  -- in the memory σ the arguments a are passed to a call, as the machine values vss
   abbrev pub Passed : Memory → Args S κs → Vals S κs → Type 1
   Passed σ a vss = (qs : Shares S.lifetimes) × Satisfies 𝓤 H 𝓜 σ (on_entry 𝓛 S κs qs a vss)
 

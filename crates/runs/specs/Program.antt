@@ -29,7 +29,7 @@ use Rattle.stepping.specs.contracts.cursor.Cursor.next_in_stream as in-stream
 use Rattle.stepping.proofs.cursor.Cursor.next_in_stream.Symbol as in-stream-symbol
 use Rattle.stepping.specs.contracts.cursor.Cursor.next_in_sequence as in-sequence
 use Rattle.stepping.proofs.cursor.Cursor.next_in_sequence.Symbol as in-sequence-symbol
-use Rattle.stepping.specs.contracts.cursor.Cursor.next_in_struct as in_struct
+use Rattle.stepping.specs.contracts.cursor.Cursor.next_in_struct as in-struct
 use Rattle.stepping.proofs.cursor.Cursor.next_in_struct.Symbol as in-struct-symbol
 use Rattle.values.specs.Read.{body_read, scalar_read}
 use Rattle.values.specs.Scalars.{Opened, step_in, Scalar, read_scalar, part_of}
@@ -60,7 +60,7 @@ module _ {M : Type 1} {𝓤 : Ura M} (𝓛 : Logic 𝓤) (𝓜 : Model 𝓤 𝓛
   abbrev pub Returned : ℕ → Rules → Bor (List ℕ) → Cursor → Step → Type 1
   Returned limit Stream s c x = machine.Returned 𝓛 𝓜 in-stream.signature (γ in-stream-symbol.name) κs tt lowers (c, (s, (limit, tt))) x
   Returned limit Sequence s c x = machine.Returned 𝓛 𝓜 in-sequence.signature (γ in-sequence-symbol.name) κs tt lowers (c, (s, (limit, tt))) x
-  Returned limit Fields s c x = machine.Returned 𝓛 𝓜 in_struct.signature (γ in-struct-symbol.name) κs tt lowers (c, (s, (limit, tt))) x
+  Returned limit Fields s c x = machine.Returned 𝓛 𝓜 in-struct.signature (γ in-struct-symbol.name) κs tt lowers (c, (s, (limit, tt))) x
 
   -- r is an answer of the program
   abbrev pub Program : ℕ → Rules → Bor (List ℕ) → Cursor → Stepped → Type 1
@@ -136,7 +136,7 @@ module _ {M : Type 1} {𝓤 : Ura M} (𝓛 : Logic 𝓤) (𝓜 : Model 𝓤 𝓛
       machine.Ends 𝓛 𝓜 in-sequence.signature (γ in-sequence-symbol.name) κs tt lowers (c, (s, (limit, tt)))
       (λ x. step_read x ≡ step_of limit Sequence s.now c)
   StepEnds limit Fields s c =
-      machine.Ends 𝓛 𝓜 in_struct.signature (γ in-struct-symbol.name) κs tt lowers (c, (s, (limit, tt)))
+      machine.Ends 𝓛 𝓜 in-struct.signature (γ in-struct-symbol.name) κs tt lowers (c, (s, (limit, tt)))
       (λ x. step_read x ≡ step_of limit Fields s.now c)
 
   -- So do those of the annotation step, stepping in and the scalar reading, at any positions.

@@ -1,5 +1,5 @@
 -- How the private reading of a value takes it apart, so that a value with a wrapper and one without are read by one piece of code: first where the value
--- stands, then the value. `Location.value-located` in `proofs/` says that the two make `value_at`; callers of the crate need none of this.
+-- stands, then the value. `Location.value_located` in `proofs/` says that the two make `value_at`; callers of the crate need none of this.
 -- Assumes nothing.
 use Rattle.std.specs.Prelude.{ℕ, ◌+◌, ◌-◌, Bool, false, not, List, get_or, ltb, eqb}
 use Rattle.numbers.specs.Outcome.{Outcome, gives, pick, refuse_if, and_then}

@@ -1,4 +1,4 @@
--- What value a step's answer is. `Valued.value-stepped` in `proofs/` says that this makes `read_value`.
+-- What value a step's answer is. `Valued.value_stepped` in `proofs/` says that this makes `read_value`.
 -- Assumes nothing.
 use Rattle.std.specs.Prelude.{ℕ}
 use Rattle.numbers.specs.Outcome.{Outcome, gives, refuses}
