@@ -15,7 +15,8 @@ use Rattle.numbers.proofs.Outcomes.{inside, each_of}
 use Rattle.numbers.proofs.Moving.{Moved, given_on, moved_refuse, moved_pick, moved_then, same_moved, moved_unsigned, var_uint_moved}
 use Rattle.framing.specs.Answers.{peeked_descriptor, Sized, sized_by, length_at, value_code, bad_float, short_timestamp, empty_ordered, length_tests, value_length, fitting, value_without_annotations, padded, pad_at, Wrapping, wrapper_tests, annotations_at, wrapper_at, inner_value, wrapped, unwrapped, annotated_value, value_at, frame_at, read_frame, Frame, padding, valued, as_padding, as_valued, is_pad, is_wrapper, no_value}
 use Rattle.framing.specs.Spans.{Spans, Padding}
-use Rattle.framing.proofs.Bounds.{PeekedAt, peeked_each, SizedAt, length_each, WrapperAt, wrapper_each}
+use Rattle.framing.proofs.WrapperTests.{WrapperAt}
+use Rattle.framing.proofs.Bounds.{PeekedAt, peeked_each, SizedAt, length_each, wrapper_each}
 
 pub moved_is : {A : Type 0} {n : ℕ} {f : A → A} (a : A) {b : A} → b ≡ f a → Moved n f (gives a) (gives b)
 moved_is {n = n} {f = f} a e = subst (λ b. Moved n f (gives a) (gives b)) (sym e) given_on
