@@ -8,7 +8,10 @@ use lib.ListN.{length, get_or}
 use Rattle.numbers.specs.Outcome.{and_then, outside_of}
 use Rattle.numbers.specs.Answers.{var_int, var_number, last_byte}
 use Rattle.numbers.specs.Read.{var_uint_read}
+use Rattle.std.specs.Prelude.{Result}
 use Rattle.numbers.specs.declared.var_uint.VarUInt.{VarUInt}
+use Rattle.numbers.specs.declared.refusal.Refusal.{Refusal}
+use Rattle.numbers.proofs.Passing.{passed_on}
 use Rattle.numbers.proofs.Outcomes.{inside_order, inside_end}
 use Rattle.numbers.proofs.LastByte.{last_none}
 use Rattle.numbers.proofs.Grouping.{signed_by, var_int_one, var_int_groups}
@@ -43,14 +46,14 @@ returns-then-at-end c =
 pub bounds-s-at : goal.bounds-s-at
 bounds-s-at c = let b = in_part (goal.at.bounds-s-at c).Else-outside in omega arith
 
-pub overflow_add-second : goal.overflow_add-second
-overflow_add-second c = let b = in_part (goal.at.overflow_add-second c).Else-outside in omega arith
+pub overflow_add-next : goal.overflow_add-next
+overflow_add-next c = let b = in_part (goal.at.overflow_add-next c).Else-outside in omega arith
 
 pub returns-then-byte-ge128 : goal.returns-then-byte-ge128
 returns-then-byte-ge128 c =
     let a = c.args in
     let b = in_part (goal.at.returns-then-byte-ge128 c).Else-outside in
-    let e : c.wide-byte.result ≡ get_or a.s.now a.at 0 = c.wide-byte.ensures in
+    let e : c.from-byte.result ≡ get_or a.s.now a.at 0 = c.from-byte.ensures in
     rw e (sym (var_int_one a.s.now a.at a.end (omega arith) (omega arith) (omega arith)))
 
 pub read_groups-requires : goal.read_groups-requires
@@ -61,16 +64,18 @@ read_groups-requires c =
     (omega arith, omega arith, omega arith, rw e (omega arith))
 
 -- what is made of the groups that were read
-made : (c : After-read_groups) {u : VarUInt} → c.read_groups.result ≡ u → let a = c.args in and_then (var_uint_read u) (signed_by c.wide-byte.result) ≡ var_int a.s.now a.at a.end
+made : (c : After-read_groups) {u : Result VarUInt Refusal} → c.read_groups.result ≡ u → let a = c.args in and_then (var_uint_read u) (signed_by c.from-byte.result) ≡ var_int a.s.now a.at a.end
 made c q =
     let a = c.args in
     let b = in_part-After-read_groups c in
-    let e : c.wide-byte.result ≡ get_or a.s.now a.at 0 = c.wide-byte.ensures in
+    let e : c.from-byte.result ≡ get_or a.s.now a.at 0 = c.from-byte.ensures in
     rw (← q, c.read_groups.ensures, e)
     (sym (var_int_groups a.s.now a.at a.end (omega arith) (omega arith) (omega arith)))
 
-pub returns-in-Value : goal.returns-in-Value
-returns-in-Value c = made (goal.at.returns-in-Value c).After-read_groups c.in-Value.is
+pub returns : goal.returns
+returns c = made (goal.at.returns c).After-read_groups c.in_ok-number.was
 
-pub returns-in-Refused : goal.returns-in-Refused
-returns-in-Refused c = made (goal.at.returns-in-Refused c).After-read_groups c.in-Refused.is
+pub returns-in_err-number : goal.returns-in_err-number
+returns-in_err-number c =
+    passed_on _ c.from_residual.result _ c.from_residual.ensures.1
+    ∙ made (goal.at.returns-in_err-number c).After-read_groups c.in_err-number.was

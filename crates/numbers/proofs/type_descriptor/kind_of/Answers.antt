@@ -1,9 +1,9 @@
--- `kind_by` meets its contract: each range of bytes has its nibbles, and these their kind.
+-- `kind_of` meets its contract: each range of bytes has its nibbles, and these their kind.
 use Prim.Native.Nat.{◌/◌, ◌%◌}
 use native.Mathlib.Omega.{arith}
 use borrow.Author.Tests.{lt-ltb, le-ltb, eq-eqb, ne_eqb}
 use Rattle.numbers.specs.Descriptor.{kind_of}
-use Rattle.numbers.proofs.type_descriptor.kind_by.Goals as goal
+use Rattle.numbers.proofs.type_descriptor.kind_of.Goals as goal
 
 pub returns-then-byte-lt15 : goal.returns-then-byte-lt15
 unfolding kind_of
