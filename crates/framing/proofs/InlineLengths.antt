@@ -12,7 +12,7 @@ use Rattle.numbers.specs.Outcome.{gives, pick}
 use Rattle.numbers.specs.Descriptor.{kind_of}
 use Rattle.numbers.specs.declared.type_descriptor.TypeDescriptor.{TypeDescriptor}
 use Rattle.numbers.proofs.Outcomes.{by_test, by_case}
-use Rattle.numbers.proofs.Table.{first_test, second_test}
+use Rattle.framing.proofs.Table.{first_test, second_test}
 use Rattle.framing.specs.Answers.{no_value, length_at, value_code, bad_float, short_timestamp, empty_ordered, length_tests, value_length}
 use Rattle.framing.specs.Private.InlineLengths.{inline_length, has_inline_length, inline_codes, is_ordered, has_length_field}
 
@@ -124,3 +124,12 @@ unfolding has_length_field
 high_length_field type code h =
     let l : ltb 13 type ≡ true = lt-ltb 13 type (omega arith) in
     by_case (eqb (value_code type code) 14) (λ e. rw (e, l)) (λ e. rw e)
+
+-- above 15 there is none
+pub high_type : (type code : ℕ) → 15 < type → false ≡ has_inline_length type code
+unfolding has_inline_length kind_of
+high_type type code h = rw (lt-ltb 14 type (omega arith)) (by_case (ltb 15 code) (λ e. rw e) (λ e. rw e))
+
+pub high_code : (type code : ℕ) → 15 < code → false ≡ has_inline_length type code
+unfolding has_inline_length
+high_code type code h = rw (lt-ltb 15 code h)

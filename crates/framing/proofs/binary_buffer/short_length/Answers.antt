@@ -7,7 +7,7 @@ use mathlib.Core.Bool.{true}
 use lib.ListN.{get_or}
 use Rattle.numbers.specs.Answers.{Unsigned, var_uint}
 use Rattle.numbers.specs.ShortVarUInt.{ShortUnsigned, short_var_uint_of}
-use Rattle.numbers.specs.Read.{short_var_uint_read}
+use Rattle.numbers.specs.Read.{unsigned_read, short_var_uint_read}
 use Rattle.numbers.proofs.Outcomes.{each_map}
 use Rattle.numbers.proofs.ShortVarUInts.{short_given, short_near, short_bounded, none_long}
 use Rattle.framing.specs.Answers.{fitting}
@@ -44,24 +44,25 @@ returns-then-not-has_length_field c =
 pub returns-then-too_short : goal.returns-then-too_short
 returns-then-too_short c =
     let a = c.args in
-    let u : Unsigned = record { value = c.in-Value.value; next = c.in-Value.next } in
-    let f = short_given (a.at + 1) (var_uint a.s.now (a.at + 1) a.end) (read (goal.at.returns-then-too_short c).After-short_var_uint (ap short_var_uint_read c.in-Value.is)) in
+    let u : Unsigned = unsigned_read c.in_ok-number.number in
+    let f = short_given (a.at + 1) (var_uint a.s.now (a.at + 1) a.end) (read (goal.at.returns-then-too_short c).After-short_var_uint (ap short_var_uint_read c.in_ok-number.was)) in
     never_said a.at (few_plain a.s.now a.at a.end c.requires.0 u (reads (goal.at.returns-then-too_short c).Else-not-has_length_field) f (sym c.too_short.ensures ∙ c.if-too_short.true))
 
-pub returns-else-too_short : goal.returns-else-too_short
-returns-else-too_short c =
+pub returns : goal.returns
+returns c =
     let a = c.args in
-    let u : Unsigned = record { value = c.in-Value.value; next = c.in-Value.next } in
-    let h = read (goal.at.returns-else-too_short c).After-short_var_uint (ap short_var_uint_read c.in-Value.is) in
+    let u : Unsigned = unsigned_read c.in_ok-number.number in
+    let h = read (goal.at.returns c).After-short_var_uint (ap short_var_uint_read c.in_ok-number.was) in
     let o = var_uint a.s.now (a.at + 1) a.end in
     record {
       ends = (short_bounded _ _ _ h).ends;
       near = short_near (a.at + 1) o h;
-      reads = read_plain a.s.now a.at a.end c.requires.0 u (reads (goal.at.returns-else-too_short c).Else-not-has_length_field) (short_given (a.at + 1) o h) (sym c.too_short.ensures ∙ c.if-too_short.false);
+      reads = read_plain a.s.now a.at a.end c.requires.0 u (reads (goal.at.returns c).Else-not-has_length_field) (short_given (a.at + 1) o h) (sym c.too_short.ensures ∙ c.if-too_short.false);
     }
 
-pub returns-in-Other : goal.returns-in-Other
-returns-in-Other c =
+pub returns-in_err-number : goal.returns-in_err-number
+returns-in_err-number c =
     let a = c.args in
-    let l = none_long (a.at + 1) (var_uint a.s.now (a.at + 1) a.end) (read (goal.at.returns-in-Other c).After-short_var_uint (ap short_var_uint_read c.in-Other.is)) in
-    none_said a.at (each_map (long_plain a.s.now a.at a.end c.requires.0 (reads (goal.at.returns-in-Other c).Else-not-has_length_field) l) (λ v h _. h))
+    let l = none_long (a.at + 1) (var_uint a.s.now (a.at + 1) a.end) (read (goal.at.returns-in_err-number c).After-short_var_uint (ap short_var_uint_read c.in_err-number.was)) in
+    rw c.from_residual.ensures
+    (none_said a.at (each_map (long_plain a.s.now a.at a.end c.requires.0 (reads (goal.at.returns-in_err-number c).Else-not-has_length_field) l) (λ v h _. h)))
