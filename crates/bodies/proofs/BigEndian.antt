@@ -4,9 +4,10 @@ use Prim.Native.Nat.{ℕ, zero, suc, ◌+◌, ◌-◌, ◌*◌, ◌^◌, ◌≤�
 use native.Mathlib.Omega.{arith}
 use native.Mathlib.Numerals.{add-one}
 use native.Mathlib.Nat.{pow-suc, mul_assoc, mul_comm, add-mul, pow-le-pow_right, lt_of_lt_of_le, mul-le-mul_right}
-use mathlib.Core.Path.{◌≡◌, refl, ap}
-use mathlib.Core.List.{List, ◌∷◌}
-use lib.ListN.{length, get_or}
+use mathlib.Core.Path.{◌≡◌, refl, ◌∙◌, sym, ap}
+use mathlib.Core.List.{List, [], ◌∷◌, ◌++◌}
+use lib.ListN.{length, get_or, take, length-append}
+use lib.Seq.{take-suc}
 use lib.Dec.{ltb}
 use borrow.Author.Tests.{le-ltb}
 use Rattle.numbers.specs.Format.{uint_of, of_digits}
@@ -85,3 +86,19 @@ uint_local s t at end e same =
     rw (← outside_local s t at end e)
     (pick_same (outside_of s at end) (λ _. refl) (λ o.
     pick_same (ltb 8 (end - at)) (λ _. refl) (λ _. ap uint_of (part_same s t at end e (inside_end s at end o) same))))
+
+-- one byte more behind the others
+uint_push : (bs : List ℕ) (b : ℕ) → uint_of (bs ++ b ∷ []) ≡ uint_of bs * 256 + b
+unfolding uint_of of_digits
+uint_push [] b = omega arith
+uint_push (d ∷ bs) b =
+    let e : length (bs ++ b ∷ []) ≡ suc (length bs) = length-append bs (b ∷ []) ∙ omega arith in
+    rw (e, pow-suc 256 (length bs)) (let r : of_digits 256 (bs ++ b ∷ []) ≡ of_digits 256 bs * 256 + b = uint_push bs b in
+    rw (r, add-mul (d * 256 ^ length bs) (of_digits 256 bs) 256, mul_assoc d (256 ^ length bs) 256) (omega arith))
+
+pub uint_next : (bs : List ℕ) (i : ℕ) → i < length bs → uint_of (take i bs) * 256 + get_or bs i 0 ≡ uint_of (take (i + 1) bs)
+uint_next bs i h = rw (add-one i, take-suc bs i 0 h) (sym (uint_push (take i bs) (get_or bs i 0)))
+
+pub uint_none : uint_of [] ≡ 0
+unfolding uint_of of_digits
+uint_none = refl
