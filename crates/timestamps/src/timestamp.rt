@@ -112,10 +112,10 @@ fn fraction_out(fraction: Option<Fraction>) -> bool
     if fraction.coefficient == 0 {
         return false;
     }
-    if fraction.negative || !fraction.exponent_negative {
+    if fraction.negative {
         return true;
     }
-    reaches_one(fraction.coefficient, fraction.exponent)
+    !fraction.exponent_negative || reaches_one(fraction.coefficient, fraction.exponent)
 }
 
 #[tactic(auto, unfolding(crate::specs::Timestamp::out_of_range, crate::specs::Timestamp::offset_out))]
