@@ -1,3 +1,4 @@
+pub mod Tests
 pub mod Answered
 pub mod Stepping
 pub mod Handlers

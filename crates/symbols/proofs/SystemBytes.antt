@@ -5,7 +5,8 @@ use native.Mathlib.Omega.{arith}
 use native.Mathlib.Nat.{le_of_suc-le-suc, not-suc-le-zero}
 use borrow.Author.Tests.{eqb-true, eqb-false}
 use mathlib.Core.Path.{◌≡◌, refl, ◌∙◌, sym, ap}
-use mathlib.Core.Bool.{Bool, true, false, true≢false}
+use mathlib.Core.Bool.{Bool, true, false, ◌&&◌, true≢false}
+use Rattle.std.specs.Cmp.Lexicographic.{pointwise}
 use mathlib.Core.List.{List, [], ◌∷◌, ◌++◌}
 use lib.ListN.{length, get_or, take, drop, length-append}
 use lib.Seq.{take-append-add, drop-append-add}
@@ -36,6 +37,18 @@ same_self (x ∷ xs) = let e : eqb x x ≡ true = eq_self x in rw (e, same_self 
 
 pub differ : (a b : List ℕ) → (a ≡ b → ⊥) → same_bytes a b ≡ false
 differ a b n = by_case (same_bytes a b) (λ t. absurd (n (same_bytes_lem a b t))) (λ t. t)
+
+-- the slices' own equality
+pub pointwise_same : (a b : List ℕ) → pointwise eqb a b ≡ same_bytes a b
+unfolding same_bytes
+pointwise_same [] [] = refl
+pointwise_same [] (y ∷ ys) = refl
+pointwise_same (x ∷ xs) [] = refl
+pointwise_same (x ∷ xs) (y ∷ ys) = rw (pointwise_same xs ys) (both (eqb x y) (same_bytes xs ys))
+  where
+    both : (a b : Bool) → (a && b) ≡ pick a b false
+    both true b = refl
+    both false b = refl
 
 -- each text begins where those before it end, and they end with the last
 starts_rise : (ts : List (List ℕ)) (n : ℕ) → length (joined (take n ts)) ≤ length (joined (take (suc n) ts))
