@@ -20,8 +20,8 @@ use writes::exports::{
 };
 
 // What a function returns that takes no buffer.
-fn returned(alloc: Global, number: u64) -> Result<String, AllocError> {
-    format!(in alloc; "{number}")
+fn plain(alloc: Global, returned: u64) -> Result<String, AllocError> {
+    format!(in alloc; "{returned}")
 }
 
 // Lends a function the buffer for its record: what it returns, and what it leaves there.
@@ -31,12 +31,12 @@ where
     requires { F.IsAlwaysCallable call }
 {
     let mut out = buffer(words, alloc)?;
-    let number = call(&mut out, words);
-    format!(in alloc; "{number}{}", Left(&out))
+    let returned = call(&mut out, words);
+    format!(in alloc; "{returned}{}", Left(&out))
 }
 
-fn both_left(alloc: Global, number: u64, to: &[u8], out: &[u8]) -> Result<String, AllocError> {
-    format!(in alloc; "{number} : {}{}", Hexadecimal(to), Left(out))
+fn both_left(alloc: Global, returned: u64, to: &[u8], out: &[u8]) -> Result<String, AllocError> {
+    format!(in alloc; "{returned} : {}{}", Hexadecimal(to), Left(out))
 }
 
 // Lends a function the buffer for its record and the one for what it writes: what it returns, and what it leaves there.
@@ -47,8 +47,8 @@ where
 {
     let mut out = buffer(words, alloc)?;
     let mut to = buffer(words, alloc)?;
-    let number = call(&mut to, &mut out, words);
-    both_left(alloc, number, &to, &out)
+    let returned = call(&mut to, &mut out, words);
+    both_left(alloc, returned, &to, &out)
 }
 
 // Many steps return a count too.
@@ -61,7 +61,7 @@ fn steps(alloc: Global, map: &[u8], words: &mut Words) -> Result<String, AllocEr
     let kind = words.number();
     let mut out = buffer(words, alloc)?;
     let mut count = UNTOUCHED;
-    let number = ion_map_steps(
+    let returned = ion_map_steps(
         map,
         start,
         end,
@@ -71,7 +71,7 @@ fn steps(alloc: Global, map: &[u8], words: &mut Words) -> Result<String, AllocEr
         &mut out,
         &mut count,
     );
-    format!(in alloc; "{number} {count}{}", Left(&out))
+    format!(in alloc; "{returned} {count}{}", Left(&out))
 }
 
 // What is read of symbols takes the system text too, whose word stands behind the limit.
@@ -83,8 +83,8 @@ where
     let mut out = buffer(words, alloc)?;
     let limit = limit(words);
     let system = system_text(words, alloc)?;
-    let number = call(&system, limit, &mut out);
-    format!(in alloc; "{number}{}", Left(&out))
+    let returned = call(&system, limit, &mut out);
+    format!(in alloc; "{returned}{}", Left(&out))
 }
 
 // What is written around a value takes its bytes too, whose word stands before the limits.
@@ -97,8 +97,8 @@ fn write_wrapper(
     let mut to = buffer(words, alloc)?;
     let value = words.bytes(alloc)?;
     let Limits { limit, depth } = Limits::of(words);
-    let number = ion_map_write_wrapper(annotations, &value, limit, depth, &mut to, &mut out);
-    both_left(alloc, number, &to, &out)
+    let returned = ion_map_write_wrapper(annotations, &value, limit, depth, &mut to, &mut out);
+    both_left(alloc, returned, &to, &out)
 }
 
 // The answer to a line: the function's name without `ion_map_`, the map's or the lent bytes in hexadecimal, and the other arguments.
@@ -180,11 +180,11 @@ pub fn answer(alloc: Global, question: &str) -> Result<String, AllocError> {
         Function::Walked => {
             let most = words.number();
             let Limits { limit, depth } = Limits::of(words);
-            returned(alloc, ion_map_walked(&map, most, limit, depth))
+            plain(alloc, ion_map_walked(&map, most, limit, depth))
         }
         Function::Ids => {
             let at = Place::of(words);
-            returned(
+            plain(
                 alloc,
                 ion_map_ids(&map, at.start, at.end, at.position, limit(words)),
             )
