@@ -9,10 +9,10 @@ ghost use Rattle.framing.specs.Read.{sized_of, wrapping_of, wrapper_read};
 ghost use Rattle.framing.specs.Private.Located.{located_read, inner_at, location_in_wrapper, location_at};
 
 use crate::binary_buffer::{is_pad, is_wrapper, no_value, peek_type_descriptor};
+use crate::described::Described;
 use crate::encoded_value::{AnnotationsWrapper, Length, read_length};
 use numbers::binary_buffer::read_var_uint;
 use numbers::refusal::{Reason, Refusal};
-use numbers::type_descriptor::TypeDescriptor;
 use numbers::var_uint::VarUInt;
 
 // Tests the wrapper at `at` by its combined length and its annotations' length.
@@ -67,52 +67,49 @@ fn check_wrapper(
     })
 }
 
-// The wrapper with this descriptor at `at`.
+// The wrapper that begins here.
 #[tactic(auto, using(std::proofs::lemmas::Bool::Decides::nat_tests), unfolding(crate::specs::Answers::wrapper_at, crate::specs::Answers::annotations_at))]
-pub(crate) fn read_wrapper(
-    s: &[u8],
-    at: usize,
-    end: usize,
-    descriptor: TypeDescriptor,
-    limit: usize,
-) -> Result<AnnotationsWrapper, Refusal>
-    requires { (at < end) × (end ≤ length s.now) }
-    ensures { wrapper_read result ≡ wrapper_at limit s.now at end descriptor }
+pub(crate) fn read_wrapper(place: Described, limit: usize) -> Result<AnnotationsWrapper, Refusal>
+    ensures { wrapper_read result ≡ wrapper_at limit place.entry.s.now place.entry.at place.entry.end place.entry.descriptor }
 {
-    let combined = read_length(s, at + 1, end, descriptor.length_code)?;
-    let size = read_var_uint(s, combined.body, end)?;
-    check_wrapper(at, end, combined, size, limit)
+    let combined = read_length(
+        place.s,
+        place.at + 1,
+        place.end,
+        place.descriptor.length_code,
+    )?;
+    let size = read_var_uint(place.s, combined.body, place.end)?;
+    check_wrapper(place.at, place.end, combined, size, limit)
 }
 
-// Where a value stands, once its wrapper is read, and its descriptor: `expected` is how long the wrapper's lengths say that it is, 0 where it has no wrapper.
+// A value where it stands, once its wrapper is read: `expected` is how long the wrapper's lengths say that it is, 0 where it has no wrapper.
 #[derive(Clone, Copy)]
-pub(crate) struct Located {
+pub(crate) struct Located<'a> {
     pub annotations: usize,
-    pub value: usize,
+    pub value: Described<'a>,
     pub expected: usize,
-    pub descriptor: TypeDescriptor,
 }
 
-// What stands in a wrapper, where something does that may.
+// What stands in a wrapper that begins here, where something does that may.
 #[tactic(auto, using(std::proofs::lemmas::Bool::Decides::nat_tests), unfolding(crate::specs::Private::Located::inner_at, crate::specs::Private::Located::inner_tests))]
-fn locate_inner_value(s: &[u8], end: usize, wrapper: AnnotationsWrapper) -> Result<Located, Refusal>
-    ensures answers { located_read result ≡ inner_at s.now end (wrapping_of wrapper) }
-    ensures in_part { IfOk result (λ l. l.value < end) }
+fn locate_inner_value(place: Described, wrapper: AnnotationsWrapper) -> Result<Located<'_>, Refusal>
+    ensures answers { located_read result ≡ inner_at place.entry.s.now place.entry.end (wrapping_of wrapper) }
+    ensures there { IfOk result (λ l. (l.value.s.now ≡ place.entry.s.now) × (l.value.end ≡ place.entry.end)) }
 {
-    let descriptor = peek_type_descriptor(s, wrapper.value, end)?;
-    if is_wrapper(descriptor.kind) {
+    let value = peek_type_descriptor(place.s, wrapper.value, place.end)?;
+    if is_wrapper(value.descriptor.kind) {
         return Err(Refusal {
             reason: Reason::WrapperInWrapper,
             position: wrapper.value,
         });
     }
-    if is_pad(descriptor.kind) {
+    if is_pad(value.descriptor.kind) {
         return Err(Refusal {
             reason: Reason::PadInWrapper,
             position: wrapper.value,
         });
     }
-    if no_value(descriptor.kind) {
+    if no_value(value.descriptor.kind) {
         return Err(Refusal {
             reason: Reason::NotAValue,
             position: wrapper.value,
@@ -120,56 +117,40 @@ fn locate_inner_value(s: &[u8], end: usize, wrapper: AnnotationsWrapper) -> Resu
     }
     Ok(Located {
         annotations: wrapper.annotations,
-        value: wrapper.value,
+        value,
         expected: wrapper.expected,
-        descriptor,
     })
 }
 
-// Where the value of the wrapper with this descriptor at `at` stands: ion-rust's `read_annotated_value` up to the value's length, which `read_located_value` reads
-// with or without a wrapper.
+// The value of the wrapper that begins here: ion-rust's `read_annotated_value` up to the value's length, which `read_located_value` reads with or without a
+// wrapper.
 #[tactic(auto, using(std::proofs::lemmas::Bool::Decides::nat_tests), unfolding(crate::specs::Private::Located::location_in_wrapper))]
-fn locate_annotated_value(
-    s: &[u8],
-    at: usize,
-    end: usize,
-    descriptor: TypeDescriptor,
-    limit: usize,
-) -> Result<Located, Refusal>
-    requires { (at < end) × (end ≤ length s.now) }
-    ensures answers { located_read result ≡ location_in_wrapper limit s.now at end descriptor }
-    ensures in_part { IfOk result (λ l. l.value < end) }
+fn locate_annotated_value(place: Described, limit: usize) -> Result<Located<'_>, Refusal>
+    ensures answers { located_read result ≡ location_in_wrapper limit place.entry.s.now place.entry.at place.entry.end place.entry.descriptor }
+    ensures there { IfOk result (λ l. (l.value.s.now ≡ place.entry.s.now) × (l.value.end ≡ place.entry.end)) }
 {
-    let wrapper = read_wrapper(s, at, end, descriptor, limit)?;
-    locate_inner_value(s, end, wrapper)
+    let wrapper = read_wrapper(place, limit)?;
+    locate_inner_value(place, wrapper)
 }
 
-// Where the value with this descriptor at `at`, or in the wrapper with this descriptor, stands.
+// The value that begins here, or the one in the wrapper that does.
 #[tactic(auto, using(std::proofs::lemmas::Bool::Decides::nat_tests), unfolding(crate::specs::Private::Located::location_at))]
-pub(crate) fn locate_value(
-    s: &[u8],
-    at: usize,
-    end: usize,
-    descriptor: TypeDescriptor,
-    limit: usize,
-) -> Result<Located, Refusal>
-    requires { (at < end) × (end ≤ length s.now) }
-    ensures answers { located_read result ≡ location_at limit s.now at end descriptor }
-    ensures in_part { IfOk result (λ l. l.value < end) }
+pub(crate) fn locate_value(place: Described, limit: usize) -> Result<Located<'_>, Refusal>
+    ensures answers { located_read result ≡ location_at limit place.entry.s.now place.entry.at place.entry.end place.entry.descriptor }
+    ensures there { IfOk result (λ l. (l.value.s.now ≡ place.entry.s.now) × (l.value.end ≡ place.entry.end)) }
 {
-    if is_wrapper(descriptor.kind) {
-        return locate_annotated_value(s, at, end, descriptor, limit);
+    if is_wrapper(place.descriptor.kind) {
+        return locate_annotated_value(place, limit);
     }
-    if no_value(descriptor.kind) {
+    if no_value(place.descriptor.kind) {
         return Err(Refusal {
             reason: Reason::NotAValue,
-            position: at,
+            position: place.at,
         });
     }
     Ok(Located {
-        annotations: at,
-        value: at,
+        annotations: place.at,
+        value: place,
         expected: 0,
-        descriptor,
     })
 }

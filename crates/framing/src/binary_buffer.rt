@@ -1,7 +1,7 @@
 // Frames what stands at a position: values, pads and annotation wrappers.
 //
 // Each function reads the part at..end of `s`, whose first byte is the descriptor; `limit` is the most bytes that a value's annotations may have.
-ghost use Rattle.std.specs.Prelude.{◌≡◌, ℕ, ◌+◌, ◌≤◌, ◌<◌, length, get_or, OnOk};
+ghost use Rattle.std.specs.Prelude.{◌≡◌, ℕ, ◌+◌, ◌≤◌, ◌<◌, length, get_or, IfOk};
 ghost use Rattle.framing.specs.Answers.{peeked_descriptor, is_pad, is_wrapper, no_value, pad_at, value_at, frame_at, read_value, read_frame, read_value_length, read_pad, read_wrapper};
 ghost use Rattle.framing.specs.Limits.{limited};
 ghost use Rattle.framing.specs.ShortValue.{bare_spans, short_value_of, begins_value};
@@ -11,6 +11,7 @@ ghost use Rattle.framing.specs.Private.Located.{location_of, differs_from, fitte
 ghost use Rattle.framing.specs.Private.ShortLength.{ShortLengthAt};
 
 use crate::annotations_wrapper::{Located, locate_value, read_wrapper};
+use crate::described::Described;
 use crate::encoded_value::{
     AnnotationsWrapper, EncodedValue, Frame, Length, NopPad, has_inline_length, has_length_field,
     inline_length, read_length, too_short, value_length,
@@ -25,6 +26,7 @@ const FIRST_VALUE: u8 = 0x0F;
 
 const FIRST_WRAPPER: u8 = 0xE0;
 
+// Tests of a kind, under the names that the contracts have for them.
 pub(crate) fn is_pad(kind: Kind) -> bool
     ensures { result ≡ is_pad kind }
 {
@@ -50,9 +52,9 @@ pub(crate) fn peek_type_descriptor(
     s: &[u8],
     at: usize,
     end: usize,
-) -> Result<TypeDescriptor, Refusal>
+) -> Result<Described<'_>, Refusal>
     ensures answers { peeked_read result ≡ peeked_descriptor s.now at end }
-    ensures in_part { OnOk result ((at < end) × (end ≤ length s.now)) }
+    ensures there { IfOk result (λ d. (d.s.now ≡ s.now) × (d.at ≡ at) × (d.end ≡ end)) }
 {
     if outside(s, at, end) {
         return Err(Refusal {
@@ -66,17 +68,26 @@ pub(crate) fn peek_type_descriptor(
             position: end,
         });
     }
-    Ok(TypeDescriptor::from_byte(s[at]))
+    Ok(Described {
+        s,
+        at,
+        end,
+        descriptor: TypeDescriptor::from_byte(s[at]),
+    })
 }
 
-// The pad with this descriptor at `at`.
+// The pad that begins here.
 #[tactic(auto, using(std::proofs::lemmas::Bool::Decides::nat_tests), unfolding(crate::specs::Answers::pad_at, crate::specs::Answers::padded))]
-fn read_pad(s: &[u8], at: usize, end: usize, descriptor: TypeDescriptor) -> Result<NopPad, Refusal>
-    requires { (at < end) × (end ≤ length s.now) }
-    ensures { pad_read result ≡ pad_at s.now at end descriptor }
+fn read_pad(place: Described) -> Result<NopPad, Refusal>
+    ensures { pad_read result ≡ pad_at place.entry.s.now place.entry.at place.entry.end place.entry.descriptor }
 {
-    let Length { body, size } = read_length(s, at + 1, end, descriptor.length_code)?;
-    if end - body < size {
+    let Length { body, size } = read_length(
+        place.s,
+        place.at + 1,
+        place.end,
+        place.descriptor.length_code,
+    )?;
+    if place.end - body < size {
         return Err(Refusal {
             reason: Reason::PadCut,
             position: body,
@@ -94,26 +105,21 @@ fn differs(expected: usize, size: usize) -> bool
     expected != 0 && size != expected
 }
 
-// The value in the item at `at` that is located here, has this first byte, and is to have this length.
+// The value that is located here, in the item at `at`, where it has this first byte and is to have this length.
 #[tactic(auto, using(std::proofs::lemmas::Bool::Decides::nat_tests), unfolding(crate::specs::Private::Located::fitted))]
-fn fit_value(
-    at: usize,
-    end: usize,
-    located: Located,
-    byte: u8,
-    size: Length,
-) -> Result<EncodedValue, Refusal>
-    requires { (located.value ≤ size.body) × (size.body ≤ end) }
-    ensures { framed_read result ≡ fitted at end located.annotations located.value located.expected byte (sized_of size) }
+fn fit_value(at: usize, located: Located, byte: u8, size: Length) -> Result<EncodedValue, Refusal>
+    requires { (located.value.at ≤ size.body) × (size.body ≤ located.value.end) }
+    ensures { framed_read result ≡ fitted at located.entry.value.end located.entry.annotations located.entry.value.at located.entry.expected byte (sized_of size) }
 {
-    if end - size.body < size.size {
+    let value = located.value;
+    if value.end - size.body < size.size {
         return Err(Refusal {
             reason: Reason::ValueCut,
-            position: located.value,
+            position: value.at,
         });
     }
     let after = size.body + size.size;
-    if differs(located.expected, after - located.value) {
+    if differs(located.expected, after - value.at) {
         return Err(Refusal {
             reason: Reason::WrappedLengthDiffers,
             position: at,
@@ -122,7 +128,7 @@ fn fit_value(
     Ok(EncodedValue {
         start: at,
         annotations: located.annotations,
-        descriptor: located.value,
+        descriptor: value.at,
         body: size.body,
         end: after,
         byte,
@@ -131,53 +137,33 @@ fn fit_value(
 
 // The value that is located here, in the item at `at`.
 #[tactic(auto, using(std::proofs::lemmas::Bool::Decides::nat_tests), unfolding(crate::specs::Private::Located::located_value))]
-fn read_located_value(
-    s: &[u8],
-    at: usize,
-    end: usize,
-    located: Located,
-) -> Result<EncodedValue, Refusal>
-    requires { (located.value < end) × (end ≤ length s.now) }
-    ensures { framed_read result ≡ located_value s.now at end (location_of located) }
+fn read_located_value(at: usize, located: Located) -> Result<EncodedValue, Refusal>
+    ensures { framed_read result ≡ located_value located.entry.value.s.now at located.entry.value.end (location_of located.entry) }
 {
-    let byte = s[located.value];
-    let size = value_length(s, located.value, end, located.descriptor)?;
-    fit_value(at, end, located, byte, size)
+    let byte = located.value.s[located.value.at];
+    let size = value_length(located.value)?;
+    fit_value(at, located, byte, size)
 }
 
-// The value with this descriptor at `at`, with or without a wrapper.
+// The value that begins here, with or without a wrapper.
 #[tactic(auto, using(std::proofs::lemmas::Bool::Decides::nat_tests, crate::proofs::Location::value_located))]
-fn read_value_at(
-    s: &[u8],
-    at: usize,
-    end: usize,
-    descriptor: TypeDescriptor,
-    limit: usize,
-) -> Result<EncodedValue, Refusal>
-    requires { (at < end) × (end ≤ length s.now) }
-    ensures { framed_read result ≡ value_at limit s.now at end descriptor }
+fn read_value_at(place: Described, limit: usize) -> Result<EncodedValue, Refusal>
+    ensures { framed_read result ≡ value_at limit place.entry.s.now place.entry.at place.entry.end place.entry.descriptor }
 {
-    let located = locate_value(s, at, end, descriptor, limit)?;
-    read_located_value(s, at, end, located)
+    let located = locate_value(place, limit)?;
+    read_located_value(place.at, located)
 }
 
-// The pad or the value with this descriptor at `at`.
+// The pad or the value that begins here.
 #[tactic(auto, using(std::proofs::lemmas::Bool::Decides::nat_tests), unfolding(crate::specs::Answers::frame_at))]
-fn read_frame_at(
-    s: &[u8],
-    at: usize,
-    end: usize,
-    descriptor: TypeDescriptor,
-    limit: usize,
-) -> Result<Frame, Refusal>
-    requires { (at < end) × (end ≤ length s.now) }
-    ensures { frame_read result ≡ frame_at limit s.now at end descriptor }
+fn read_frame_at(place: Described, limit: usize) -> Result<Frame, Refusal>
+    ensures { frame_read result ≡ frame_at limit place.entry.s.now place.entry.at place.entry.end place.entry.descriptor }
 {
-    if is_pad(descriptor.kind) {
-        let pad = read_pad(s, at, end, descriptor)?;
+    if is_pad(place.descriptor.kind) {
+        let pad = read_pad(place)?;
         return Ok(Frame::Pad(pad));
     }
-    let value = read_value_at(s, at, end, descriptor, limit)?;
+    let value = read_value_at(place, limit)?;
     Ok(Frame::Value(value))
 }
 
@@ -192,8 +178,8 @@ pub fn read_value(s: &[u8], at: usize, end: usize, limit: usize) -> Result<Encod
             position: 0,
         });
     }
-    let descriptor = peek_type_descriptor(s, at, end)?;
-    read_value_at(s, at, end, descriptor, limit)
+    let place = peek_type_descriptor(s, at, end)?;
+    read_value_at(place, limit)
 }
 
 // Whether a byte begins a value or a null, without a wrapper.
@@ -270,8 +256,8 @@ pub fn read_frame(s: &[u8], at: usize, end: usize, limit: usize) -> Result<Frame
             position: 0,
         });
     }
-    let descriptor = peek_type_descriptor(s, at, end)?;
-    read_frame_at(s, at, end, descriptor, limit)
+    let place = peek_type_descriptor(s, at, end)?;
+    read_frame_at(place, limit)
 }
 
 // The length of the value at `at` without annotations.
@@ -279,14 +265,14 @@ pub fn read_frame(s: &[u8], at: usize, end: usize, limit: usize) -> Result<Frame
 pub fn read_value_length(s: &[u8], at: usize, end: usize) -> Result<Length, Refusal>
     ensures { length_read result ≡ read_value_length s.now at end }
 {
-    let descriptor = peek_type_descriptor(s, at, end)?;
-    if no_value(descriptor.kind) {
+    let place = peek_type_descriptor(s, at, end)?;
+    if no_value(place.descriptor.kind) {
         return Err(Refusal {
             reason: Reason::NotAValue,
             position: at,
         });
     }
-    value_length(s, at, end, descriptor)
+    value_length(place)
 }
 
 // The pad at `at`.
@@ -294,14 +280,14 @@ pub fn read_value_length(s: &[u8], at: usize, end: usize) -> Result<Length, Refu
 pub fn read_nop_pad(s: &[u8], at: usize, end: usize) -> Result<NopPad, Refusal>
     ensures { pad_read result ≡ read_pad s.now at end }
 {
-    let descriptor = peek_type_descriptor(s, at, end)?;
-    if !is_pad(descriptor.kind) {
+    let place = peek_type_descriptor(s, at, end)?;
+    if !is_pad(place.descriptor.kind) {
         return Err(Refusal {
             reason: Reason::NotAValue,
             position: at,
         });
     }
-    read_pad(s, at, end, descriptor)
+    read_pad(place)
 }
 
 // The wrapper at `at`.
@@ -320,12 +306,12 @@ pub fn read_annotations_wrapper(
             position: 0,
         });
     }
-    let descriptor = peek_type_descriptor(s, at, end)?;
-    if !is_wrapper(descriptor.kind) {
+    let place = peek_type_descriptor(s, at, end)?;
+    if !is_wrapper(place.descriptor.kind) {
         return Err(Refusal {
             reason: Reason::NotAValue,
             position: at,
         });
     }
-    read_wrapper(s, at, end, descriptor, limit)
+    read_wrapper(place, limit)
 }

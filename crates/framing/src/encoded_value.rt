@@ -4,6 +4,7 @@ ghost use Rattle.framing.specs.Answers.{length_at, value_code, bad_float, short_
 ghost use Rattle.framing.specs.Read.{sized_of, length_read};
 ghost use Rattle.framing.specs.Private.InlineLengths.{has_inline_length, inline_length, inline_codes, is_ordered, has_length_field, too_short};
 
+use crate::described::Described;
 use numbers::binary_buffer::read_var_uint;
 use numbers::refusal::{Reason, Refusal};
 use numbers::type_descriptor::TypeDescriptor;
@@ -52,7 +53,8 @@ pub enum Frame {
     Value(EncodedValue),
 }
 
-// For each type code, the length codes that tell a value's length by themselves: a bit for each code, the lowest for 0.
+// For each type code, the length codes that tell a value's length by themselves: a bit for each code, the lowest for 0. A match on both codes was
+// tried, and takes a tenth more instructions for each value that `short_value` answers.
 const INLINE_LENGTHS: [u16; 16] = [
     0x8000, 0xFFFF, 0xBFFF, 0xBFFF, 0x8111, 0xBFFF, 0xBFFC, 0xBFFF, 0xBFFF, 0xBFFF, 0xBFFF, 0xBFFF,
     0xBFFF, 0xBFFD, 0, 0,
@@ -198,23 +200,18 @@ fn check_length(at: usize, descriptor: TypeDescriptor, length: Length) -> Result
     Ok(length)
 }
 
-// The length of the value with this descriptor at `at`.
+// The length of the value that begins here.
 #[tactic(auto, using(std::proofs::lemmas::Bool::Decides::nat_tests), unfolding(crate::specs::Answers::value_length))]
-pub(crate) fn value_length(
-    s: &[u8],
-    at: usize,
-    end: usize,
-    descriptor: TypeDescriptor,
-) -> Result<Length, Refusal>
-    requires { (at < end) × (end ≤ length s.now) }
-    ensures { length_read result ≡ value_length s.now at end descriptor }
+pub(crate) fn value_length(place: Described) -> Result<Length, Refusal>
+    ensures { length_read result ≡ value_length place.entry.s.now place.entry.at place.entry.end place.entry.descriptor }
 {
-    let after = at + 1;
+    let after = place.at + 1;
+    let descriptor = place.descriptor;
     if has_inline_length(descriptor.type_code, descriptor.length_code) {
         let size = inline_length(descriptor.type_code, descriptor.length_code);
         return Ok(Length { body: after, size });
     }
     let code = value_code(descriptor.type_code, descriptor.length_code);
-    let length = read_length(s, after, end, code)?;
-    check_length(at, descriptor, length)
+    let length = read_length(place.s, after, place.end, code)?;
+    check_length(place.at, descriptor, length)
 }

@@ -19,7 +19,7 @@ pub record Location : Type 0 where
 
 abbrev pub location_of : Located → Location
 location_of l =
-    record { annotations = l.annotations; value = l.value; expected = l.expected; descriptor = l.descriptor }
+    record { annotations = l.annotations; value = l.value.at; expected = l.expected; descriptor = l.value.descriptor }
 
 abbrev pub located_read : Result Located Refusal → Outcome Location
 located_read = outcome location_of

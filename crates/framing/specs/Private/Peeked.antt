@@ -5,6 +5,7 @@ use Rattle.numbers.specs.Outcome.{Outcome}
 use Rattle.numbers.specs.Read.{outcome}
 use Rattle.numbers.specs.declared.refusal.Refusal.{Refusal}
 use Rattle.numbers.specs.declared.type_descriptor.TypeDescriptor.{TypeDescriptor}
+use Rattle.framing.specs.declared.described.Described.{Described}
 
-abbrev pub peeked_read : Result TypeDescriptor Refusal → Outcome TypeDescriptor
-peeked_read = outcome (λ d. d)
+abbrev pub peeked_read : Result Described Refusal → Outcome TypeDescriptor
+peeked_read = outcome (λ d. d.descriptor)

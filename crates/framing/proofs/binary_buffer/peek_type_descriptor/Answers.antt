@@ -1,4 +1,4 @@
--- `peek_type_descriptor` looks into the slice where the part is one of it.
+-- `peek_type_descriptor` looks into the slice where the part is one of it, and what it gives begins that part.
 use native.Mathlib.Omega.{arith}
 use Rattle.numbers.proofs.Outcomes.{in_part}
 use Rattle.framing.proofs.binary_buffer.peek_type_descriptor.Goals as goal
@@ -8,8 +8,8 @@ bounds-s-at c =
     let a = c.args in
     omega (arith, in_part a.s.now a.at a.end c.outside.ensures c.if-outside.false)
 
-pub returns-clause-in_part : goal.returns-clause-in_part
-returns-clause-in_part c =
+pub invariant_of-result : goal.invariant_of-result
+invariant_of-result c =
     let a = c.args in
     let k = in_part a.s.now a.at a.end c.outside.ensures c.if-outside.false in
-    (omega arith, k.1)
+    record { before = omega arith; inside = k.1 }

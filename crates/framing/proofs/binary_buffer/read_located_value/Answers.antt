@@ -9,5 +9,5 @@ use Rattle.framing.proofs.binary_buffer.read_located_value.Goals as goal
 pub fit_value-requires : goal.fit_value-requires
 fit_value-requires c =
     let a = c.args in
-    let b = each_of (value_length_each a.s.now a.located.value a.end a.located.descriptor (omega arith)) (sym c.value_length.ensures ∙ ap length_read c.in_ok-size.was) in
+    let b = each_of (value_length_each a.located.value.s.now a.located.value.at a.located.value.end a.located.value.descriptor (omega arith)) (sym c.value_length.ensures ∙ ap length_read c.in_ok-size.was) in
     (omega (arith, b.low), b.high)

@@ -9,6 +9,6 @@ use Rattle.framing.proofs.encoded_value.value_length.Goals as goal
 
 pub returns-then-has_inline_length : goal.returns-then-has_inline_length
 returns-then-has_inline_length c =
-    let a = c.args in
+    let a = c.args.place in
     let h : has_inline_length a.descriptor.type_code a.descriptor.length_code ≡ true = sym c.has_inline_length.ensures ∙ c.if-has_inline_length.true in
     ap (λ n. gives (record { body = a.at + 1; size = n })) c.inline_length-size.ensures ∙ sym (inline_read a.s.now a.at a.end a.descriptor h)
