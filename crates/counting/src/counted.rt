@@ -13,7 +13,7 @@ use numbers::refusal::{Reason, Refusal};
 use stepping::cursor::{Cursor, Item, Rules, after_item, item_from, read_name};
 
 // What a step answers, how many pads it passed, and how many names it began to read: in a struct's body these are field IDs.
-#[derive(Clone, Copy)]
+#[derive(Clone, Copy, Debug, PartialEq, Eq)]
 pub struct Counted {
     pub item: Result<Item, Refusal>,
     pub pads: usize,
@@ -21,7 +21,7 @@ pub struct Counted {
 }
 
 // What a bounded step answers.
-#[derive(Clone, Copy)]
+#[derive(Clone, Copy, Debug, PartialEq, Eq)]
 pub enum Bounded {
     // The answer of the step, which met its bound nowhere.
     Reached(Counted),
@@ -30,7 +30,7 @@ pub enum Bounded {
 }
 
 // An answer, and the cursor for the next step: the one given where the step is refused.
-#[derive(Clone, Copy)]
+#[derive(Clone, Copy, Debug, PartialEq, Eq)]
 pub struct BoundedStep {
     pub answer: Bounded,
     pub next: Cursor,

@@ -1,6 +1,7 @@
 // A cursor that is stepped through a stream, a list's or sexp's body, or a struct's body.
 //
-// `limit` is the most bytes that a value's annotations may have.
+// `limit` is the most bytes that a value's annotations may have. A part's rules, its slice and its end are parameters of their own, as callers have them: a
+// struct of them would be made at each call and taken apart in each contract.
 ghost use Rattle.std.specs.Prelude.{◌≡◌, false, ◌+◌, ◌≤◌, ◌<◌, length, OkIff};
 ghost use Rattle.framing.specs.Limits.{out_of_range};
 ghost use Rattle.framing.specs.Read.{spans_of, frame_of};
@@ -61,14 +62,14 @@ impl From<Rules> for u64 {
 }
 
 // A position in a part, and the part's end.
-#[derive(Clone, Copy)]
+#[derive(Clone, Copy, Debug, PartialEq, Eq)]
 pub struct Cursor {
     pub at: usize,
     pub end: usize,
 }
 
 // What a step hands out.
-#[derive(Clone, Copy)]
+#[derive(Clone, Copy, Debug, PartialEq, Eq)]
 pub enum Item {
     // Nothing is left; the position is the part's end.
     End {
@@ -122,14 +123,14 @@ pub fn is_last(item: Result<Item, Refusal>) -> bool
 }
 
 // An answer, and the cursor for the next step: the one given where the step is refused.
-#[derive(Clone, Copy)]
+#[derive(Clone, Copy, Debug, PartialEq, Eq)]
 pub struct Step {
     pub item: Result<Item, Refusal>,
     pub next: Cursor,
 }
 
 // What the rules of a part want before a pad or a value, its name: in a struct's body a field ID, elsewhere nothing, with 0 for the ID; and where it ends.
-#[derive(Clone, Copy)]
+#[derive(Clone, Copy, Debug, PartialEq, Eq)]
 pub struct Name {
     pub id: usize,
     pub next: usize,
