@@ -4,9 +4,9 @@
 ghost use Rattle.std.specs.Prelude.{◌≡◌, ◌<◌};
 ghost use Rattle.numbers.specs.Outcome.{gives};
 ghost use Rattle.framing.specs.Read.{spans_of};
-ghost use Rattle.symbols.specs.Text.{is_typed, is_table, tabled, ruling_at, list_of, own_list, system_text, entry_text, own_text, text_in, table, listed};
+ghost use Rattle.symbols.specs.Text.{is_table, ruling_at, list_of, own_list, system_text, entry_text, own_text, text_in, table, listed};
 ghost use Rattle.symbols.specs.Read.{own_read, symbols_read, text_told, text_read};
-ghost use Rattle.symbols.specs.Private.Turned.{table_read, ruling_read, ruled_read, then_at};
+ghost use Rattle.symbols.specs.Private.Turned.{table_read, ruling_read, ruled_read};
 
 use crate::symbols::SymbolText;
 use bodies::utf8::is_utf8;
@@ -14,7 +14,7 @@ use framing::annotations_iterator::read_annotation;
 use framing::encoded_value::EncodedValue;
 use numbers::refusal::{Reason, Refusal};
 use stepping::cursor::{Item, Rules, item_at};
-use values::value::Span;
+use values::value::{Span, is_typed};
 
 // The type codes of a string, a list and a struct: the document's own numbers.
 const STRING: u8 = 8;
@@ -35,25 +35,8 @@ const FIRST_OWN_ID: usize = 10;
 
 const STARTS: [usize; 10] = [0, 4, 12, 29, 33, 40, 47, 54, 60, 84];
 
-fn body_of(value: EncodedValue) -> Span
-    ensures { result ≡ record { start = value.body; end = value.end } }
-{
-    Span {
-        start: value.body,
-        end: value.end,
-    }
-}
-
-// Whether a value is of a type, and not null.
-#[tactic(auto, using(crate::proofs::Tests::tests), unfolding(crate::specs::Text::is_typed))]
-fn is_typed(value: EncodedValue, type_code: u8) -> bool
-    ensures { result ≡ is_typed type_code (spans_of value) }
-{
-    value.byte % 16 != 15 && value.byte / 16 == type_code
-}
-
 // Whether a value is a symbol table.
-#[tactic(auto, using(crate::proofs::Tests::tests), unfolding(crate::specs::Text::is_table))]
+#[tactic(auto, using(crate::proofs::Tests::tests), unfolding(crate::specs::Text::is_table, crate::specs::Text::is_typed))]
 fn is_table(s: &[u8], value: EncodedValue) -> Result<bool, Refusal>
     ensures { table_read result ≡ is_table s.now (spans_of value) }
 {
@@ -64,20 +47,6 @@ fn is_table(s: &[u8], value: EncodedValue) -> Result<bool, Refusal>
         Some(annotation) => Ok(annotation.id == SYMBOL_TABLE),
         None => Ok(false),
     }
-}
-
-// What rules behind a value: itself, if it is a table.
-fn ruling_behind(
-    s: &[u8],
-    before: Option<Span>,
-    value: EncodedValue,
-) -> Result<Option<Span>, Refusal>
-    ensures { then_at value.end (ruled_read result) ≡ tabled (spans_of value) (ruling_read before) (is_table s.now (spans_of value)) }
-{
-    if is_table(s, value)? {
-        return Ok(Some(body_of(value)));
-    }
-    Ok(before)
 }
 
 // What rules at a place of the stream start..end.
@@ -131,7 +100,9 @@ pub fn ruling_at(
                         position: 0,
                     });
                 }
-                table = ruling_behind(s, table, value)?;
+                if is_table(s, value)? {
+                    table = Some(Span::of_body(value));
+                }
                 at = value.end;
             }
             _ => {
@@ -145,14 +116,14 @@ pub fn ruling_at(
 }
 
 // The list that a table's field 7 is.
-#[tactic(auto, using(crate::proofs::Tests::tests), unfolding(crate::specs::Text::list_of))]
+#[tactic(auto, using(crate::proofs::Tests::tests), unfolding(crate::specs::Text::list_of, crate::specs::Text::is_typed))]
 fn list_of(value: EncodedValue) -> Option<Span>
     ensures { own_read result ≡ list_of (spans_of value) }
 {
     if !is_typed(value, LIST) {
         return None;
     }
-    Some(body_of(value))
+    Some(Span::of_body(value))
 }
 
 // The list of the table with this body.
@@ -161,6 +132,7 @@ fn list_in(s: &[u8], body: Span, limit: usize) -> Result<Option<Span>, Refusal>
     ensures { symbols_read result ≡ own_list limit s.now (table body.start body.end) }
 {
     let mut at = body.start;
+    // No field 7 yet, or one and the list that it is.
     let mut list = None;
     loop {
         let Item::Field { id, start, value } = item_at(Rules::Fields, s, at, body.end, limit)?
@@ -213,7 +185,7 @@ fn system_text(id: usize) -> SymbolText
 }
 
 // The text that an entry of the list is.
-#[tactic(auto, using(crate::proofs::Tests::tests), unfolding(crate::specs::Text::entry_text))]
+#[tactic(auto, using(crate::proofs::Tests::tests), unfolding(crate::specs::Text::entry_text, crate::specs::Text::is_typed))]
 fn entry_text(s: &[u8], value: EncodedValue) -> Result<SymbolText, Refusal>
     ensures { text_read result ≡ entry_text s.now (spans_of value) }
 {
@@ -226,7 +198,7 @@ fn entry_text(s: &[u8], value: EncodedValue) -> Result<SymbolText, Refusal>
             position: value.descriptor,
         });
     }
-    Ok(SymbolText::Own(body_of(value)))
+    Ok(SymbolText::Own(Span::of_body(value)))
 }
 
 // The text of the entry behind `count` others in the list with this body.

@@ -1,7 +1,7 @@
 // The entries on symbols: the text of an ID at a place of a stream.
 //
 // A place is where a top-level item begins, or the stream's end. `system` is the nine texts of the system, joined. `limit` is the most bytes that a value's
-// annotations may have.
+// annotations may have. They are parameters and no struct of them, since the exports to C hand them on as they came.
 ghost use Rattle.std.specs.Prelude.{◌≡◌};
 ghost use Rattle.numbers.specs.Outcome.{gives};
 ghost use Rattle.numbers.specs.Read.{outcome};

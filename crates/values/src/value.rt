@@ -1,13 +1,14 @@
 // The entries on a value: stepping into a container, reading a scalar, and reading a timestamp.
 //
-// Each takes a part of the slice, start..end, the position in it of the value's wrapper or descriptor, and the most bytes that a value's annotations may have.
-ghost use Rattle.std.specs.Prelude.{◌≡◌, ◌≤◌, ◌<◌, length, eqb};
+// Each takes a part of the slice, start..end, the position in it of the value's wrapper or descriptor, and the most bytes that a value's annotations may have:
+// five parameters and no struct of them, since the exports to C hand them on as they came.
+ghost use Rattle.std.specs.Prelude.{◌≡◌, ◌≤◌, ◌<◌, length, false, eqb};
 ghost use Rattle.numbers.specs.Outcome.{gives, pick};
 ghost use Rattle.timestamps.specs.Timestamp.{timestamp};
 ghost use Rattle.framing.specs.Read.{framed_read, spans_of};
 ghost use Rattle.stepping.specs.Read.{item_read};
-ghost use Rattle.values.specs.Scalars.{null, value_in, is_container, opened, step_in, bool_of, positive_of, negative_of, float_of, symbol_of, string_of, typed_of, scalar_of, scalar_in, read_scalar, read_with_value, span_of, scalar_part};
-ghost use Rattle.values.specs.Timestamps.{is_timestamp, timestamp_of, read_timestamp};
+ghost use Rattle.values.specs.Scalars.{null, type_of, code_of, value_in, is_container, opened, step_in, bool_of, positive_of, negative_of, float_of, symbol_of, string_of, typed_of, scalar_of, scalar_in, read_scalar, read_with_value, span_of, scalar_part};
+ghost use Rattle.values.specs.Timestamps.{timestamp_of, read_timestamp};
 ghost use Rattle.values.specs.Read.{body_read, scalar_told, scalar_read, value_read, dated_read};
 ghost use Rattle.values.specs.Private.Values.{value_from};
 
@@ -34,6 +35,18 @@ pub struct Body {
 pub struct Span {
     pub start: usize,
     pub end: usize,
+}
+
+impl Span {
+    // The body of a value.
+    pub fn of_body(value: EncodedValue) -> Span
+        ensures { result ≡ record { start = value.body; end = value.end } }
+    {
+        Span {
+            start: value.body,
+            end: value.end,
+        }
+    }
 }
 
 // What a value is read as.
@@ -74,6 +87,9 @@ pub enum TimestampRead {
 
 // The first descriptor byte that begins no pad.
 const FIRST_NO_PAD: u8 = 15;
+
+// The type code of a timestamp: this and those below are the document's own numbers.
+const TIMESTAMP: u8 = 6;
 
 // The most bytes of a symbol.
 const MAX_SYMBOL_SIZE_IN_BYTES: usize = 8;
@@ -127,6 +143,14 @@ pub fn value_in(
         });
     }
     value_of(at, item_at(Rules::Sequence, s, at, end, limit))
+}
+
+// Whether a value is of a type, by its code, and not null.
+#[tactic(auto, using(crate::proofs::Tests::tests))]
+pub fn is_typed(value: EncodedValue, type_code: u8) -> bool
+    ensures { result ≡ pick (eqb (code_of (spans_of value)) 15) false (eqb (type_of (spans_of value)) type_code) }
+{
+    value.byte % 16 != 15 && value.byte / 16 == type_code
 }
 
 // Whether a value is a list, a sexp or a struct, and not null.
@@ -243,10 +267,7 @@ fn read_string(s: &[u8], value: EncodedValue) -> Result<Scalar, Refusal>
             position: value.descriptor,
         });
     }
-    Ok(Scalar::Text(Span {
-        start: value.body,
-        end: value.end,
-    }))
+    Ok(Scalar::Text(Span::of_body(value)))
 }
 
 fn null_of(type_code: u8) -> Scalar
@@ -256,14 +277,6 @@ fn null_of(type_code: u8) -> Scalar
         return Scalar::Null { type_code: 2 };
     }
     Scalar::Null { type_code }
-}
-
-// Whether a value is a timestamp, and not null.
-#[tactic(auto, using(crate::proofs::Tests::tests), unfolding(crate::specs::Timestamps::is_timestamp))]
-fn is_timestamp(value: EncodedValue) -> bool
-    ensures { result ≡ is_timestamp (spans_of value) }
-{
-    value.byte % 16 != 15 && value.byte / 16 == 6
 }
 
 // A value whose body lies in the slice.
@@ -292,16 +305,13 @@ impl<'a> Placed<'a> {
         })
     }
 
-    // A value that is no null, by its type code, which is the document's own number.
+    // A value that is no null, by its type code.
     #[tactic(auto, using(crate::proofs::Tests::tests), unfolding(crate::specs::Scalars::typed_of))]
     fn typed(self, type_code: u8) -> Result<Scalar, Refusal>
         ensures { scalar_read result ≡ typed_of self.entry.s.now (spans_of self.entry.value) type_code }
     {
         let Placed { s, value } = self;
-        let body = Span {
-            start: value.body,
-            end: value.end,
-        };
+        let body = Span::of_body(value);
         match type_code {
             1 => read_bool(value),
             2 => Ok(read_positive(s, value)),
@@ -330,12 +340,12 @@ impl<'a> Placed<'a> {
     }
 
     // What the value is read as where timestamps are read.
-    #[tactic(auto, using(crate::proofs::Tests::tests), unfolding(crate::specs::Timestamps::timestamp_of))]
+    #[tactic(auto, using(crate::proofs::Tests::tests), unfolding(crate::specs::Timestamps::timestamp_of, crate::specs::Timestamps::is_timestamp))]
     fn timestamp(self) -> Result<TimestampRead, Refusal>
         ensures { dated_read result ≡ timestamp_of self.entry.s.now (spans_of self.entry.value) }
     {
         let Placed { s, value } = self;
-        if is_timestamp(value) {
+        if is_typed(value, TIMESTAMP) {
             let descriptor = value.descriptor;
             let stamp = read_body(s, value.body, value.end, descriptor)?;
             return Ok(TimestampRead::Stamped { descriptor, stamp });

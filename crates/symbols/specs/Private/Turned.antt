@@ -1,11 +1,10 @@
 -- What each private reading says in the terms of the definitions.
 -- Assumes nothing.
-use Rattle.std.specs.Prelude.{ℕ, Bool, true, false, Result, Option, Some, None}
-use Rattle.numbers.specs.Outcome.{Outcome, gives, refuses}
+use Rattle.std.specs.Prelude.{Bool, true, false, Result, Option, Some, None}
+use Rattle.numbers.specs.Outcome.{Outcome}
 use Rattle.numbers.specs.declared.refusal.Refusal.{Refusal}
 use Rattle.numbers.specs.Read.{outcome}
 use Rattle.values.specs.declared.value.Span.{Span}
-use Rattle.symbols.specs.Turns.{Turn, over, further}
 use Rattle.symbols.specs.Text.{Ruling, system_alone, table, SymbolsField, no_list}
 use Rattle.symbols.specs.Read.{own_read}
 
@@ -18,11 +17,6 @@ ruling_read (Some b) = table b.start b.end
 
 abbrev pub ruled_read : Result (Option Span) Refusal → Outcome Ruling
 ruled_read = outcome ruling_read
-
--- what rules behind a value that ends there
-abbrev pub then_at : ℕ → Outcome Ruling → Turn Ruling Ruling
-then_at at (gives r) = further at r
-then_at at (refuses number position) = over (refuses number position)
 
 -- of a table's fields so far: no field 7, or one and the list that it is
 abbrev pub field_read : Option (Option Span) → SymbolsField

@@ -18,3 +18,9 @@ loop-position-smaller c =
     let a = c.args in
     let p = moved_on a.limit Stream a.s.now c.loop-position.at a.end (sym c.item_at.ensures ∙ ap item_read (c.in_ok-position.was ∙ ap Ok c.in-Value.is)) refl in
     omega (arith, p.0, p.1)
+
+pub loop-position-smaller-then-branch : goal.loop-position-smaller-then-branch
+loop-position-smaller-then-branch c =
+    let a = c.args in
+    let p = moved_on a.limit Stream a.s.now c.loop-position.at a.end (sym c.item_at.ensures ∙ ap item_read (c.in_ok-position.was ∙ ap Ok c.in-Value.is)) refl in
+    omega (arith, p.0, p.1)
