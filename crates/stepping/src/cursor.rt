@@ -39,12 +39,21 @@ impl TryFrom<u64> for Rules {
     ghost try_from_gives = { λ kind r. OkIff r (kind ≤ 2) (rules_of kind) };
 
     fn try_from(kind: u64) -> Result<Rules, NoSuchKind> {
-        match kind {
-            0 => Ok(Rules::Stream),
-            1 => Ok(Rules::Sequence),
-            2 => Ok(Rules::Fields),
-            _ => Err(NoSuchKind),
+        if 2 < kind {
+            return Err(NoSuchKind);
         }
+        Ok(rules_of(kind))
+    }
+}
+
+// The rules of a part of this kind, where the kind is not tested: those of a struct's body for each that no part has.
+pub fn rules_of(kind: u64) -> Rules
+    ensures { result ≡ rules_of kind }
+{
+    match kind {
+        0 => Rules::Stream,
+        1 => Rules::Sequence,
+        _ => Rules::Fields,
     }
 }
 
