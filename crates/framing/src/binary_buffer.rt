@@ -107,11 +107,11 @@ fn differs(expected: usize, size: usize) -> bool
 
 // The value that is located here, in the item at `at`, where it has this first byte and is to have this length.
 #[tactic(auto, using(std::proofs::lemmas::Bool::Decides::nat_tests), unfolding(crate::specs::Private::Located::fitted))]
-fn fit_value(at: usize, located: Located, byte: u8, size: Length) -> Result<EncodedValue, Refusal>
-    requires { (located.value.at ≤ size.body) × (size.body ≤ located.value.end) }
-    ensures { framed_read result ≡ fitted at located.entry.value.end located.entry.annotations located.entry.value.at located.entry.expected byte (sized_of size) }
+fn fit_value(at: usize, found: Located, byte: u8, size: Length) -> Result<EncodedValue, Refusal>
+    requires { (found.value.at ≤ size.body) × (size.body ≤ found.value.end) }
+    ensures { framed_read result ≡ fitted at found.entry.value.end found.entry.annotations found.entry.value.at found.entry.expected byte (sized_of size) }
 {
-    let value = located.value;
+    let value = found.value;
     if value.end - size.body < size.size {
         return Err(Refusal {
             reason: Reason::ValueCut,
@@ -119,7 +119,7 @@ fn fit_value(at: usize, located: Located, byte: u8, size: Length) -> Result<Enco
         });
     }
     let after = size.body + size.size;
-    if differs(located.expected, after - value.at) {
+    if differs(found.expected, after - value.at) {
         return Err(Refusal {
             reason: Reason::WrappedLengthDiffers,
             position: at,
@@ -127,7 +127,7 @@ fn fit_value(at: usize, located: Located, byte: u8, size: Length) -> Result<Enco
     }
     Ok(EncodedValue {
         start: at,
-        annotations: located.annotations,
+        annotations: found.annotations,
         descriptor: value.at,
         body: size.body,
         end: after,
@@ -209,17 +209,17 @@ fn short_length(s: &[u8], at: usize, end: usize) -> Option<Length>
     requires { (at < end) × (end ≤ length s.now) }
     ensures { ShortLengthAt s.now at end result }
 {
-    let byte = s[at];
+    let descriptor = TypeDescriptor::from_byte(s[at]);
     let after = at + 1;
-    if has_inline_length(byte / 16, byte % 16) {
-        let size = inline_length(byte / 16, byte % 16);
+    if has_inline_length(descriptor) {
+        let size = inline_length(descriptor);
         return Some(Length { body: after, size });
     }
-    if !has_length_field(byte / 16, byte % 16) {
+    if !has_length_field(descriptor) {
         return None;
     }
     let number = short_var_uint(s, after, end)?;
-    if too_short(byte / 16, byte % 16, number.value) {
+    if too_short(descriptor, number.value) {
         return None;
     }
     Some(Length {

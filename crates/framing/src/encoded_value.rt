@@ -91,87 +91,85 @@ fn inline_codes(type_code: u8) -> u16
 }
 
 // Whether a value's descriptor tells its length: no VarUInt says it, and no test of it fails.
-pub(crate) fn has_inline_length(type_code: u8, length_code: u8) -> bool
-    ensures { result ≡ has_inline_length type_code length_code }
+pub(crate) fn has_inline_length(descriptor: TypeDescriptor) -> bool
+    ensures { result ≡ has_inline_length descriptor.type_code descriptor.length_code }
 {
-    if 15 < type_code || 15 < length_code {
+    if 15 < descriptor.type_code || 15 < descriptor.length_code {
         return false;
     }
-    (inline_codes(type_code) >> length_code) % 2 == 1
+    (inline_codes(descriptor.type_code) >> descriptor.length_code) % 2 == 1
 }
 
 // The length that such a descriptor tells.
 #[tactic(auto, using(std::proofs::lemmas::Bool::Decides::nat_tests), unfolding(crate::specs::Private::InlineLengths::inline_length))]
-pub(crate) fn inline_length(type_code: u8, length_code: u8) -> usize
-    ensures { result ≡ inline_length type_code length_code }
+pub(crate) fn inline_length(descriptor: TypeDescriptor) -> usize
+    ensures { result ≡ inline_length descriptor.type_code descriptor.length_code }
 {
-    if type_code < 2 || length_code == 15 {
+    if descriptor.type_code < 2 || descriptor.length_code == 15 {
         return 0;
     }
-    usize::from(length_code)
+    usize::from(descriptor.length_code)
 }
 
 #[tactic(auto, using(std::proofs::lemmas::Bool::Decides::nat_tests), unfolding(crate::specs::Private::InlineLengths::is_ordered))]
-fn is_ordered(type_code: u8, length_code: u8) -> bool
-    ensures { result ≡ is_ordered type_code length_code }
+fn is_ordered(descriptor: TypeDescriptor) -> bool
+    ensures { result ≡ is_ordered descriptor.type_code descriptor.length_code }
 {
-    type_code == 13 && length_code == 1
+    descriptor.type_code == 13 && descriptor.length_code == 1
 }
 
 // The length code that a value is read by: none for null and bool, and a VarUInt for an ordered struct.
-#[tactic(auto, using(std::proofs::lemmas::Bool::Decides::nat_tests), unfolding(crate::specs::Answers::value_code))]
-fn value_code(type_code: u8, length_code: u8) -> u8
-    ensures { result ≡ value_code type_code length_code }
+#[tactic(auto, using(std::proofs::lemmas::Bool::Decides::nat_tests), unfolding(crate::specs::Answers::value_code, crate::specs::Private::InlineLengths::is_ordered))]
+fn value_code(descriptor: TypeDescriptor) -> u8
+    ensures { result ≡ value_code descriptor.type_code descriptor.length_code }
 {
-    if type_code < 2 {
+    if descriptor.type_code < 2 {
         return 0;
     }
-    if type_code == 13 && length_code == 1 {
+    if is_ordered(descriptor) {
         return 14;
     }
-    length_code
+    descriptor.length_code
 }
 
 #[tactic(auto, using(std::proofs::lemmas::Bool::Decides::nat_tests), unfolding(crate::specs::Answers::bad_float))]
-fn bad_float(type_code: u8, length_code: u8) -> bool
-    ensures { result ≡ bad_float type_code length_code }
+fn bad_float(descriptor: TypeDescriptor) -> bool
+    ensures { result ≡ bad_float descriptor.type_code descriptor.length_code }
 {
-    type_code == 4 && !matches!(length_code, 0 | 4 | 8 | 15)
+    descriptor.type_code == 4 && !matches!(descriptor.length_code, 0 | 4 | 8 | 15)
 }
 
 // Whether a VarUInt says the length of a value with this descriptor. A float has none.
 #[tactic(auto, using(std::proofs::lemmas::Bool::Decides::nat_tests), unfolding(crate::specs::Private::InlineLengths::has_length_field, crate::specs::Private::InlineLengths::is_ordered, crate::specs::Answers::value_code, crate::specs::Answers::bad_float))]
-pub(crate) fn has_length_field(type_code: u8, length_code: u8) -> bool
-    ensures { result ≡ has_length_field type_code length_code }
+pub(crate) fn has_length_field(descriptor: TypeDescriptor) -> bool
+    ensures { result ≡ has_length_field descriptor.type_code descriptor.length_code }
 {
-    if length_code != 14 {
-        return is_ordered(type_code, length_code);
+    if descriptor.length_code != 14 {
+        return is_ordered(descriptor);
     }
-    2 <= type_code && type_code < 14 && type_code != 4
+    2 <= descriptor.type_code && descriptor.type_code < 14 && descriptor.type_code != 4
 }
 
 #[tactic(auto, using(std::proofs::lemmas::Bool::Decides::nat_tests), unfolding(crate::specs::Answers::short_timestamp))]
-fn short_timestamp(type_code: u8, length_code: u8, size: usize) -> bool
-    ensures { result ≡ short_timestamp type_code length_code size }
+fn short_timestamp(descriptor: TypeDescriptor, size: usize) -> bool
+    ensures { result ≡ short_timestamp descriptor.type_code descriptor.length_code size }
 {
-    type_code == 6 && length_code != 15 && size < 2
+    descriptor.type_code == 6 && descriptor.length_code != 15 && size < 2
 }
 
-#[tactic(auto, using(std::proofs::lemmas::Bool::Decides::nat_tests), unfolding(crate::specs::Answers::empty_ordered))]
-fn empty_ordered(type_code: u8, length_code: u8, size: usize) -> bool
-    ensures { result ≡ empty_ordered type_code length_code size }
+#[tactic(auto, using(std::proofs::lemmas::Bool::Decides::nat_tests), unfolding(crate::specs::Answers::empty_ordered, crate::specs::Private::InlineLengths::is_ordered))]
+fn empty_ordered(descriptor: TypeDescriptor, size: usize) -> bool
+    ensures { result ≡ empty_ordered descriptor.type_code descriptor.length_code size }
 {
-    type_code == 13 && length_code == 1 && size == 0
+    is_ordered(descriptor) && size == 0
 }
 
 // Whether a timestamp or an ordered struct is too short: no other value can be.
 #[tactic(auto, using(std::proofs::lemmas::Bool::Decides::nat_tests), unfolding(crate::specs::Private::InlineLengths::too_short, crate::specs::Answers::short_timestamp, crate::specs::Answers::empty_ordered))]
-pub(crate) fn too_short(type_code: u8, length_code: u8, size: usize) -> bool
-    ensures { result ≡ too_short type_code length_code size }
+pub(crate) fn too_short(descriptor: TypeDescriptor, size: usize) -> bool
+    ensures { result ≡ too_short descriptor.type_code descriptor.length_code size }
 {
-    size < 2
-        && (short_timestamp(type_code, length_code, size)
-            || empty_ordered(type_code, length_code, size))
+    size < 2 && (short_timestamp(descriptor, size) || empty_ordered(descriptor, size))
 }
 
 // Tests the length of the value with this descriptor at `at`.
@@ -179,19 +177,19 @@ pub(crate) fn too_short(type_code: u8, length_code: u8, size: usize) -> bool
 fn check_length(at: usize, descriptor: TypeDescriptor, length: Length) -> Result<Length, Refusal>
     ensures { length_read result ≡ length_tests at descriptor.type_code descriptor.length_code (sized_of length) }
 {
-    if bad_float(descriptor.type_code, descriptor.length_code) {
+    if bad_float(descriptor) {
         return Err(Refusal {
             reason: Reason::BadFloatLength,
             position: at,
         });
     }
-    if short_timestamp(descriptor.type_code, descriptor.length_code, length.size) {
+    if short_timestamp(descriptor, length.size) {
         return Err(Refusal {
             reason: Reason::TimestampTooShort,
             position: at,
         });
     }
-    if empty_ordered(descriptor.type_code, descriptor.length_code, length.size) {
+    if empty_ordered(descriptor, length.size) {
         return Err(Refusal {
             reason: Reason::EmptyOrderedStruct,
             position: at,
@@ -207,11 +205,11 @@ pub(crate) fn value_length(place: Described) -> Result<Length, Refusal>
 {
     let after = place.at + 1;
     let descriptor = place.descriptor;
-    if has_inline_length(descriptor.type_code, descriptor.length_code) {
-        let size = inline_length(descriptor.type_code, descriptor.length_code);
+    if has_inline_length(descriptor) {
+        let size = inline_length(descriptor);
         return Ok(Length { body: after, size });
     }
-    let code = value_code(descriptor.type_code, descriptor.length_code);
+    let code = value_code(descriptor);
     let length = read_length(place.s, after, place.end, code)?;
     check_length(place.at, descriptor, length)
 }
