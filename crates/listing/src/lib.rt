@@ -2,11 +2,11 @@
 #![tactic(auto)]
 
 use framing::encoded_value::EncodedValue;
-use maps::walk::{Walk, Walked};
 use numbers::refusal::{Reason, Refusal};
 use std::io::{BufWriter, Print, Read, Write};
 use std::{fmt, io};
 use stepping::cursor::{Item, is_last};
+use walking::walk::{Walk, Walked};
 
 // The most bytes of a map that are listed.
 const MOST: usize = 65536;
