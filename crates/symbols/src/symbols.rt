@@ -16,7 +16,7 @@ use numbers::refusal::{Reason, Refusal};
 use values::value::Span;
 
 // Where a symbol's text lies: nowhere, in the map, or in the system's texts.
-#[derive(Clone, Copy)]
+#[derive(Clone, Copy, Debug, PartialEq, Eq)]
 pub enum SymbolText {
     Unknown,
     Own(Span),

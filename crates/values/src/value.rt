@@ -24,14 +24,14 @@ use stepping::cursor::{Cursor, Item, Rules, item_at};
 use timestamps::timestamp::{Stamp, read_timestamp as read_body};
 
 // The body of a container: its rules, and a cursor at its start.
-#[derive(Clone, Copy)]
+#[derive(Clone, Copy, Debug, PartialEq, Eq)]
 pub struct Body {
     pub rules: Rules,
     pub cursor: Cursor,
 }
 
 // The bytes start..end of the slice.
-#[derive(Clone, Copy)]
+#[derive(Clone, Copy, Debug, PartialEq, Eq)]
 pub struct Span {
     pub start: usize,
     pub end: usize,
@@ -50,7 +50,7 @@ impl Span {
 }
 
 // What a value is read as.
-#[derive(Clone, Copy)]
+#[derive(Clone, Copy, Debug, PartialEq, Eq)]
 pub enum Scalar {
     // A null, by the type code of its type; that of an int is 2.
     Null { type_code: u8 },
@@ -70,14 +70,14 @@ pub enum Scalar {
 }
 
 // A value's spans with what it is read as.
-#[derive(Clone, Copy)]
+#[derive(Clone, Copy, Debug, PartialEq, Eq)]
 pub struct ValueRead {
     pub value: EncodedValue,
     pub scalar: Result<Scalar, Refusal>,
 }
 
 // What a value is read as where timestamps are read.
-#[derive(Clone, Copy)]
+#[derive(Clone, Copy, Debug, PartialEq, Eq)]
 pub enum TimestampRead {
     // A timestamp: where its descriptor stands, and what it says.
     Stamped { descriptor: usize, stamp: Stamp },
