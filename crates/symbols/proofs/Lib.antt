@@ -1,4 +1,4 @@
-pub mod Tests
+pub mod Steps
 pub mod Answered
 pub mod Stepping
 pub mod Handlers

@@ -36,7 +36,7 @@ const FIRST_OWN_ID: usize = 10;
 const STARTS: [usize; 10] = [0, 4, 12, 29, 33, 40, 47, 54, 60, 84];
 
 // Whether a value is a symbol table.
-#[tactic(auto, using(crate::proofs::Tests::tests), unfolding(crate::specs::Text::is_table, crate::specs::Text::is_typed))]
+#[tactic(auto, using(values::proofs::Tests::tests), unfolding(crate::specs::Text::is_table, crate::specs::Text::is_typed))]
 fn is_table(s: &[u8], value: EncodedValue) -> Result<bool, Refusal>
     ensures { table_read result ≡ is_table s.now (spans_of value) }
 {
@@ -50,7 +50,7 @@ fn is_table(s: &[u8], value: EncodedValue) -> Result<bool, Refusal>
 }
 
 // What rules at a place of the stream start..end.
-#[tactic(auto, using(crate::proofs::Tests::on_the_stream), unfolding(crate::specs::Text::on_stream, crate::specs::Text::ruling_at))]
+#[tactic(auto, using(crate::proofs::Steps::on_the_stream), unfolding(crate::specs::Text::on_stream, crate::specs::Text::ruling_at))]
 pub fn ruling_at(
     s: &[u8],
     start: usize,
@@ -116,7 +116,7 @@ pub fn ruling_at(
 }
 
 // The list that a table's field 7 is.
-#[tactic(auto, using(crate::proofs::Tests::tests), unfolding(crate::specs::Text::list_of, crate::specs::Text::is_typed))]
+#[tactic(auto, using(values::proofs::Tests::tests), unfolding(crate::specs::Text::list_of, crate::specs::Text::is_typed))]
 fn list_of(value: EncodedValue) -> Option<Span>
     ensures { own_read result ≡ list_of (spans_of value) }
 {
@@ -127,7 +127,7 @@ fn list_of(value: EncodedValue) -> Option<Span>
 }
 
 // The list of the table with this body.
-#[tactic(auto, using(crate::proofs::Tests::in_a_table), unfolding(crate::specs::Text::on_field, crate::specs::Text::own_list))]
+#[tactic(auto, using(crate::proofs::Steps::in_a_table), unfolding(crate::specs::Text::on_field, crate::specs::Text::own_list))]
 fn list_in(s: &[u8], body: Span, limit: usize) -> Result<Option<Span>, Refusal>
     ensures { symbols_read result ≡ own_list limit s.now (table body.start body.end) }
 {
@@ -159,7 +159,7 @@ fn list_in(s: &[u8], body: Span, limit: usize) -> Result<Option<Span>, Refusal>
 }
 
 // The list of what rules.
-#[tactic(auto, using(crate::proofs::Tests::tests), unfolding(crate::specs::Text::own_list))]
+#[tactic(auto, using(values::proofs::Tests::tests), unfolding(crate::specs::Text::own_list))]
 pub fn own_list(s: &[u8], ruling: Option<Span>, limit: usize) -> Result<Option<Span>, Refusal>
     ensures { symbols_read result ≡ own_list limit s.now (ruling_read ruling) }
 {
@@ -170,7 +170,7 @@ pub fn own_list(s: &[u8], ruling: Option<Span>, limit: usize) -> Result<Option<S
 }
 
 // Where the text of an ID below 10 lies among the system's.
-#[tactic(auto, using(crate::proofs::Tests::tests), unfolding(crate::specs::Text::system_text))]
+#[tactic(auto, using(values::proofs::Tests::tests), unfolding(crate::specs::Text::system_text))]
 fn system_text(id: usize) -> SymbolText
     requires { id < 10 }
     ensures { text_told result ≡ system_text id }
@@ -185,7 +185,7 @@ fn system_text(id: usize) -> SymbolText
 }
 
 // The text that an entry of the list is.
-#[tactic(auto, using(crate::proofs::Tests::tests), unfolding(crate::specs::Text::entry_text, crate::specs::Text::is_typed))]
+#[tactic(auto, using(values::proofs::Tests::tests), unfolding(crate::specs::Text::entry_text, crate::specs::Text::is_typed))]
 fn entry_text(s: &[u8], value: EncodedValue) -> Result<SymbolText, Refusal>
     ensures { text_read result ≡ entry_text s.now (spans_of value) }
 {
@@ -202,7 +202,7 @@ fn entry_text(s: &[u8], value: EncodedValue) -> Result<SymbolText, Refusal>
 }
 
 // The text of the entry behind `count` others in the list with this body.
-#[tactic(auto, using(crate::proofs::Tests::in_a_list), unfolding(crate::specs::Text::on_entry, crate::specs::Text::own_text))]
+#[tactic(auto, using(crate::proofs::Steps::in_a_list), unfolding(crate::specs::Text::on_entry, crate::specs::Text::own_text))]
 fn entry_in(s: &[u8], list: Span, count: usize, limit: usize) -> Result<SymbolText, Refusal>
     ensures { text_read result ≡ own_text limit s.now count (listed list.start list.end) }
 {
@@ -220,7 +220,7 @@ fn entry_in(s: &[u8], list: Span, count: usize, limit: usize) -> Result<SymbolTe
 }
 
 // The text of an ID under the table with this list.
-#[tactic(auto, using(crate::proofs::Tests::tests), unfolding(crate::specs::Text::text_in, crate::specs::Text::own_text))]
+#[tactic(auto, using(values::proofs::Tests::tests), unfolding(crate::specs::Text::text_in, crate::specs::Text::own_text))]
 pub fn text_in(s: &[u8], id: usize, list: Option<Span>, limit: usize) -> Result<SymbolText, Refusal>
     ensures { text_read result ≡ text_in limit s.now id (own_read list) }
 {

@@ -43,7 +43,7 @@ fn lent_right(system: &[u8], limit: usize) -> Result<(), Refusal>
 }
 
 // The list of the table that rules at a place of the stream start..end, by its body; none where no list gives texts. For many IDs it is found once.
-#[tactic(auto, using(crate::proofs::Tests::tests), unfolding(crate::specs::Text::symbols_at))]
+#[tactic(auto, using(values::proofs::Tests::tests), unfolding(crate::specs::Text::symbols_at))]
 pub fn symbols_at(
     map: &[u8],
     system: &[u8],
@@ -66,7 +66,7 @@ pub fn symbols_at(
 }
 
 // The text of an ID under the table whose list has the body start..end, which is empty where no list rules.
-#[tactic(auto, using(crate::proofs::Tests::tests), unfolding(crate::specs::Text::list_text))]
+#[tactic(auto, using(values::proofs::Tests::tests), unfolding(crate::specs::Text::list_text))]
 pub fn symbol_text(
     map: &[u8],
     system: &[u8],
@@ -88,7 +88,7 @@ pub fn symbol_text(
 }
 
 // The text of an ID at a place of the stream start..end.
-#[tactic(auto, using(crate::proofs::Tests::tests), unfolding(crate::specs::Text::text_of))]
+#[tactic(auto, using(values::proofs::Tests::tests), unfolding(crate::specs::Text::text_of))]
 pub fn text_of(
     map: &[u8],
     system: &[u8],
@@ -105,7 +105,7 @@ pub fn text_of(
 }
 
 // The bytes of that text, as a part of one of the two slices: none where it is unknown or refused.
-#[tactic(auto, using(crate::proofs::Tests::tests), unfolding(crate::specs::Text::text_part))]
+#[tactic(auto, using(values::proofs::Tests::tests), unfolding(crate::specs::Text::text_part))]
 pub fn text_part<'a>(
     map: &'a [u8],
     system: &'a [u8],

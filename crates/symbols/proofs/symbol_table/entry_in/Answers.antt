@@ -3,7 +3,7 @@ use Prim.Native.Nat.{◌+◌, ◌-◌}
 use native.Mathlib.Omega.{arith}
 use mathlib.Core.Path.{◌≡◌}
 use Rattle.symbols.specs.Text.{on_entry}
-use Rattle.symbols.proofs.Tests.{in_a_list}
+use Rattle.symbols.proofs.Steps.{in_a_list}
 use Rattle.symbols.proofs.symbol_table.entry_in.Goals as goal
 
 pub loop-preserved : goal.loop-preserved

@@ -1,9 +1,7 @@
--- What a test of numbers says, and what one step makes of the rest, as the tactics are to have it.
+-- What one step makes of the rest, as the tactics are to have it beside what a test of numbers says.
 -- Assumes nothing.
-use borrow.Author.Tests.{eq-eqb, ne_eqb, lt-ltb, le-ltb}
+use Rattle.values.proofs.Tests.{tests}
 use Rattle.symbols.proofs.Handlers.{stream_step, field_step, entry_step}
-
-pub ruleset tests = (eq-eqb, ne_eqb, lt-ltb, le-ltb)
 
 pub ruleset on_the_stream = (tests, stream_step)
 
