@@ -10,8 +10,6 @@ use prog.Wired.{Wired}
 use types.Logic.{Logic}
 use contract.Lifetimes.{Lfts}
 use denote.Lowered.{Lowered}
-use denote.Param.Laws.{Told}
-use denote.RattleType.{RattleType}
 use denote.Signature.{type_at}
 use Rattle.std.proofs.option.Option.TheLaws as option-laws
 use Rattle.std.proofs.result.Result.TheLaws as result-laws
@@ -50,6 +48,7 @@ use Rattle.values.proofs.value.Scalar.TheLaws as scalar-laws
 use Rattle.values.specs.contracts.value.read as reading
 use Rattle.values.proofs.value.read.Symbol as reading-symbol
 use Rattle.runs.specs.Machine as machine
+use Rattle.runs.specs.Machine.{told}
 use Rattle.runs.specs.Reached.{ReachedBody, Agree, In, Entries, SameAnswers}
 use Rattle.runs.specs.Overwritten.{Site, Sites, Over, SameOutside}
 
@@ -62,10 +61,7 @@ pub record HasEntries (γ : Env) : Type 0 where
   pub entering : Wired γ entering-symbol.code
   pub reading : Wired γ reading-symbol.code
 
--- the machine's values of the results of the annotation step, of stepping in and of the scalar reading, of those of their parts
-abbrev told : {R : RattleType} → Lowered R → Told R
-told L = record { val = L.lowered; tells = L.val_is }
-
+-- the machine's values of the results of the annotation step, of stepping in and of the scalar reading, by those of their parts
 abbrev pub annotation_lowers : (κs : Lfts 1) → Lowered (type_at annotation.signature.result κs)
 annotation_lowers κs =
     result-laws.lowers _ _ (option-laws.the_row_laws _ annotation-laws.the_row_laws) refusal-laws.the_row_laws
