@@ -24,7 +24,7 @@ use Rattle.counting.specs.Pads.{begins_pad}
 use Rattle.counting.specs.Bounded.{Bounded, reached, more, bounded_in, bounded}
 use Rattle.counting.proofs.PadTiles.{pad_tile, refused_tile, no-pad}
 use Rattle.counting.proofs.Finding.{answer_tile}
-use Rattle.counting.proofs.Bounding.{add_pads, add_none, add_one_more, next_named, next_refused, bound_pad, bound_more, bound_stop, bound_end, bounded_unranged, bounded_outside, bounded_none, bounded-in, reach_begun, reach_ended, reach_more}
+use Rattle.counting.proofs.Bounding.{add_pads, add_none, add_added, next_named, next_refused, bound_pad, bound_more, bound_stop, bound_end, bounded_unranged, bounded_outside, bounded_none, bounded-in, reach_begun, reach_ended, reach_more}
 
 -- from `at` on, past as many pads as are left of `most`, with the n passed before
 pub behind : ℕ → ℕ → Rules → List ℕ → ℕ → ℕ → ℕ → Bounded
@@ -96,7 +96,7 @@ module _ {limit : ℕ} {rules : Rules} {s : List ℕ} {at hi : ℕ} {u : Unsigne
       let z : most - n ≡ suc (most - (n + 1)) = omega arith in
       ap (λ (j : ℕ). add_pads n (bounded_in limit j rules s (cursor at hi))) z
       ∙ ap (add_pads n) (bound_pad limit rules s b.ranged at hi b.before b.within (most - (n + 1)) (pad_there e))
-      ∙ sym (add_one_more n (bounded_in limit (most - (n + 1)) rules s (cursor p.end hi)))
+      ∙ add_added n 1 (bounded_in limit (most - (n + 1)) rules s (cursor p.end hi)) refl
 
   -- it is refused
   pub behind_cut : (most n names : ℕ) {number position : ℕ} → names ≡ n → read_pad s u.next hi ≡ refuses number position → n < most → behind limit most rules s n at hi ≡ reached (record { answer = refuses number position; pads = n; names = names + 1 })
