@@ -44,7 +44,9 @@ fn past_limit(s: &[u8], from: usize, at: usize, end: usize, cut: Reason) -> Refu
 }
 
 // A number that began at `from`: what its bytes before `at` are worth is `first`, and groups of seven bits follow from
-// `at` on. `cut` is the refusal where the last byte is missing.
+// `at` on. `cut` is the refusal where the last byte is missing. Few numbers are so long: in its callers' place it would keep the short ones from being read in
+// place.
+#[inline(never)]
 fn read_groups(
     s: &[u8],
     from: usize,
