@@ -3,7 +3,7 @@
 use Prim.Native.Nat.{ℕ, zero, suc, ◌+◌, ◌-◌, ◌*◌, ◌^◌, ◌≤◌, ◌<◌}
 use native.Mathlib.Omega.{arith}
 use native.Mathlib.Numerals.{add-one}
-use native.Mathlib.Nat.{pow-suc, mul_assoc, mul_comm, add-mul, pow-le-pow_right, lt_of_lt_of_le, mul-le-mul_left}
+use native.Mathlib.Nat.{pow-suc, mul_assoc, add-mul, pow-le-pow_right, lt_of_lt_of_le, mul-le-mul_left}
 use mathlib.Core.Path.{◌≡◌, refl, ◌∙◌, sym, ap}
 use mathlib.Core.List.{List, [], ◌∷◌, ◌++◌}
 use lib.ListN.{length, get_or, take, drop, length-append, length-drop}

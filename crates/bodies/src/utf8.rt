@@ -51,7 +51,9 @@ fn follow(s: &[u8], at: usize, end: usize, wanted: Wanted) -> Option<usize>
     Some(after)
 }
 
-// Where the sequence of the byte at `at`, which is 80 or more, ends: none where it is ill-formed.
+// Where the sequence of the byte at `at`, which is 80 or more, ends: none where it is ill-formed. It stands by itself, so that ASCII, which most texts are,
+// is passed by a loop that is short.
+#[inline(never)]
 #[tactic(auto, using(crate::proofs::Behind::behind_few, crate::proofs::Behind::lead_none, crate::proofs::Behind::lead_some))]
 fn sequence_end(s: &[u8], at: usize, end: usize) -> Option<usize>
     requires { (at < end) × (end ≤ length s.now) × (128 ≤ get_or s.now at 0) }
@@ -61,7 +63,8 @@ fn sequence_end(s: &[u8], at: usize, end: usize) -> Option<usize>
     follow(s, at, end, wanted)
 }
 
-// Whether the bytes at..end are well-formed UTF-8: false where at..end is no part of the slice.
+// Whether the bytes at..end are well-formed UTF-8: false where at..end is no part of the slice. The library's `from_utf8` would be no plainer beside the
+// definition: that is the Unicode Standard's table, which this follows row by row.
 #[tactic(auto, using(crate::proofs::Rows::utf8_out, crate::proofs::Rows::utf8_inside, crate::proofs::Rows::part_ascii, crate::proofs::Rows::ends_well, numbers::proofs::Outcomes::inside_order, numbers::proofs::Outcomes::inside_end))]
 pub fn is_utf8(s: &[u8], at: usize, end: usize) -> bool
     ensures { result ≡ utf8 s.now at end }

@@ -1,4 +1,5 @@
-// Bytes that are put into a lent buffer from a position on. What does not fit into it is left out: callers see to it that all does.
+// Bytes that are put into a lent buffer from a position on: there is no heap, so no `Vec` that grows. What does not fit into it is left out: callers see to it
+// that all does.
 ghost use Rattle.std.specs.Prelude.{◌≡◌, ◌/◌, ◌%◌, ◌^◌, set};
 ghost use Rattle.std.proofs.lemmas.List.Edits.{sets};
 ghost use Rattle.encoding.specs.Fields.{var_uint_in, var_uint_size, var_uint_bytes};

@@ -37,7 +37,7 @@ pub struct Offset {
     pub minutes: usize,
 }
 
-// The fields that were read, how many they are, and 0 for each of the others, as a stamp has them.
+// The fields that were read, how many they are, and 0, no `None`, for each of the others: a stamp has them so, and the record of a stamp that C is given.
 #[derive(Clone, Copy)]
 pub struct Fields {
     pub count: usize,
