@@ -98,12 +98,14 @@ pub(crate) fn meet(s: &[u8], rules: Rules, at: usize, end: usize, limit: usize) 
     ensures fits { MetFits limit s.now at end result }
 {
     match item_at(rules, s, at, end, limit) {
-        Ok(Item::Marker {
-            major,
-            minor,
-            end: past,
-            ..
-        }) => Some(Met::Marker {
+        Ok(
+            Item::Marker {
+                major,
+                minor,
+                end: past,
+                ..
+            },
+        ) => Some(Met::Marker {
             major,
             minor,
             end: past,

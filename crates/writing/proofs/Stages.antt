@@ -10,7 +10,7 @@ use lib.ListN.{length, get_or, take, drop, length-drop}
 use lib.Seq.{take_all}
 use lib.Dec.{eqb}
 use Rattle.std.specs.Int.{w64, to_be_bytes}
-use Rattle.numbers.specs.Outcome.{Outcome, gives, refuses, pick, refuse_if, and_then}
+use Rattle.numbers.specs.Outcome.{Outcome, gives, refuses, refuse_if, and_then}
 use Rattle.numbers.proofs.Outcomes.{by_test}
 use Rattle.std.specs.Prelude.{Option, Some, None}
 use Rattle.numbers.specs.Refusals.{number_of}

@@ -10,8 +10,7 @@ use Rattle.numbers.specs.Bytes.{part}
 use Rattle.numbers.proofs.Parts.{part_length}
 use Rattle.framing.specs.Spans.{Spans}
 use Rattle.framing.specs.Read.{spans_of}
-use Rattle.stepping.specs.declared.cursor.Rules.{Rules}
-use Rattle.values.specs.Scalars.{is_container, body_rules}
+use Rattle.values.specs.Scalars.{is_container}
 use Rattle.encoding.proofs.Stores.{sets_more}
 use Rattle.packing.specs.Tree.{written}
 use Rattle.packing.specs.Packed.{head_of}

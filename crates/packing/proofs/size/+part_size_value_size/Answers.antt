@@ -1,15 +1,10 @@
 -- The cycle of calls {part_size, value_size}: what is met has its bytes at the front of what is left of the part.
 use native.Mathlib.Omega.{arith}
-use Prim.Native.Nat.{ℕ, ◌-◌, ◌≤◌}
-use mathlib.Core.Path.{◌≡◌, ◌∙◌, sym, ap}
-use mathlib.Core.Bool.{true}
-use mathlib.Core.List.{List}
+use Prim.Native.Nat.{◌-◌}
+use mathlib.Core.Path.{◌∙◌, sym, ap}
 use lib.ListN.{length, length-append}
-use Rattle.framing.specs.Spans.{Spans}
 use Rattle.framing.specs.Read.{spans_of}
-use Rattle.stepping.specs.declared.cursor.Rules.{Rules}
-use Rattle.values.specs.Scalars.{is_container, body_rules}
-use Rattle.packing.specs.Private.Items.{bytes_at, body_bytes, value_bytes}
+use Rattle.packing.specs.Private.Items.{bytes_at, value_bytes}
 use Rattle.packing.proofs.Places.{part_short, held, scalar_size, sized-by}
 use Rattle.packing.proofs.Unrolled.{end_met, marker_met, value_met}
 use Rattle.packing.proofs.size.+part_size_value_size.Goals as goal

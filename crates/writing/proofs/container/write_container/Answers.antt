@@ -4,7 +4,7 @@ use native.Mathlib.Omega.{arith}
 use borrow.Author.Tests.{not-false, ltb-true, ltb-false}
 use borrow.Author.Rules.{rules}
 use Rattle.std.specs.Prelude.{Err}
-use mathlib.Core.Path.{◌≡◌, refl, ◌∙◌, sym, ap}
+use mathlib.Core.Path.{◌≡◌, ◌∙◌, sym, ap}
 use mathlib.Core.Bool.{Bool, false, not, true≢false}
 use mathlib.Core.List.{List}
 use lib.ListN.{length}
@@ -15,12 +15,11 @@ use Rattle.walking.proofs.Depths.{in_limit}
 use Rattle.walking.specs.Walk.{limits_out}
 use Rattle.framing.specs.Limits.{out_of_range}
 use Rattle.stepping.specs.declared.cursor.Rules.{Rules}
-use Rattle.checking.specs.Reading.{Done, done}
+use Rattle.checking.specs.Reading.{Done}
 use Rattle.checking.specs.Read.{done_read}
 use Rattle.checking.specs.Body.{limited_body}
-use Rattle.encoding.specs.Heads.{typed_bytes}
 use Rattle.writing.specs.Things.{container}
-use Rattle.writing.specs.Answers.{is_container, rules_of, judged_container, fitted, buffer_after}
+use Rattle.writing.specs.Answers.{is_container, rules_of, judged_container}
 use Rattle.writing.specs.Read.{written_read}
 use Rattle.writing.proofs.Stages.{body_limited, outside_is, unlimited, in_limits, long_is, judged_is, fitted_is}
 use Rattle.writing.proofs.container.write_container.Goals as goal

@@ -7,7 +7,7 @@ use mathlib.Core.List.{List}
 use lib.ListN.{length, get_or}
 use borrow.Rule.Slice.PartMut.{put_mid}
 use Rattle.std.proofs.lemmas.List.{places}
-use Rattle.writing.proofs.Pads.{pad_some, pad_few, field_small, pad_stored}
+use Rattle.writing.proofs.Pads.{pad_few, field_small, pad_stored}
 use Rattle.writing.proofs.pad.put_pad.Goals as goal
 
 pub overflow_add-field : goal.overflow_add-field

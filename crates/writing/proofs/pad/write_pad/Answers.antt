@@ -3,11 +3,10 @@ use Prim.Native.Nat.{ℕ, ◌≤◌, ◌<◌}
 use native.Mathlib.Omega.{arith}
 use borrow.Author.Tests.{ltb-true, ltb-false}
 use mathlib.Core.Path.{◌≡◌, refl, ◌∙◌, sym, ap}
-use mathlib.Core.Bool.{Bool, false}
+use mathlib.Core.Bool.{false}
 use lib.ListN.{length}
 use lib.Dec.{ltb}
 use Rattle.std.specs.Prelude.{Option, Some, None}
-use Rattle.numbers.specs.Outcome.{pick}
 use Rattle.numbers.proofs.Outcomes.{by_test}
 use Rattle.writing.specs.Things.{pad, pad_field, pad_bytes}
 use Rattle.writing.specs.Answers.{no_pad}

@@ -1,11 +1,7 @@
 -- `write_bool` meets its contract: its byte is put.
-use Prim.Native.Nat.{ℕ}
-use mathlib.Core.Path.{refl, ◌∙◌, ap}
-use mathlib.Core.List.{[], ◌∷◌}
+use mathlib.Core.Path.{refl, ◌∙◌}
 use lib.ListN.{length}
 use Rattle.writing.specs.Things.{bool}
-use Rattle.writing.specs.Answers.{buffer_after}
-use Rattle.writing.specs.Read.{written_read}
 use Rattle.writing.proofs.Stages.{fitted_is}
 use Rattle.writing.proofs.scalar.write_bool.Goals as goal
 

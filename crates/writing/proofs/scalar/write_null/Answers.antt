@@ -1,12 +1,8 @@
 -- `write_null` meets its contract: 50 for a type that is none, else its byte is put.
-use Prim.Native.Nat.{ℕ}
-use native.Mathlib.Omega.{arith}
 use borrow.Author.Tests.{lt-ltb, le-ltb}
 use mathlib.Core.Path.{refl, ◌∙◌, ap}
-use mathlib.Core.List.{[], ◌∷◌}
 use lib.ListN.{length}
-use Rattle.writing.specs.Things.{null, null_byte}
-use Rattle.writing.specs.Answers.{buffer_after}
+use Rattle.writing.specs.Things.{null}
 use Rattle.writing.specs.Read.{written_read}
 use Rattle.writing.proofs.Stages.{outside_is, fitted_is}
 use Rattle.writing.proofs.scalar.write_null.Goals as goal

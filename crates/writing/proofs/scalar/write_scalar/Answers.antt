@@ -4,16 +4,14 @@ use native.Mathlib.Omega.{arith}
 use borrow.Author.Tests.{not-false, ltb-true}
 use borrow.Author.Rules.{rules}
 use Rattle.std.specs.Prelude.{Err}
-use mathlib.Core.Path.{◌≡◌, refl, ◌∙◌, sym, ap}
+use mathlib.Core.Path.{◌≡◌, ◌∙◌, sym, ap}
 use mathlib.Core.Bool.{Bool, false, not, true≢false}
 use lib.ListN.{length}
 use lib.Dec.{ltb, eqb}
 use Rattle.numbers.proofs.Outcomes.{by_test}
-use Rattle.checking.specs.Reading.{done}
 use Rattle.checking.specs.Read.{done_read}
-use Rattle.encoding.specs.Heads.{typed_bytes}
 use Rattle.writing.specs.Things.{scalar}
-use Rattle.writing.specs.Answers.{has_body, judged_scalar, fitted, buffer_after}
+use Rattle.writing.specs.Answers.{has_body}
 use Rattle.writing.specs.Read.{written_read}
 use Rattle.writing.proofs.Stages.{outside_is, long_is, judged_is, fitted_is}
 use Rattle.writing.proofs.scalar.write_scalar.Goals as goal

@@ -1,5 +1,5 @@
 -- `wrapped_past_nine` meets its contract: where the sum itself is past, and else by the sum.
-use Prim.Native.Nat.{ℕ, ◌+◌}
+use Prim.Native.Nat.{◌+◌}
 use native.Mathlib.Omega.{arith}
 use mathlib.Core.Path.{◌≡◌, ◌∙◌, sym, ap}
 use Rattle.encoding.specs.Fields.{var_uint_size}

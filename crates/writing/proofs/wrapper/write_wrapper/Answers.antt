@@ -11,7 +11,7 @@ use Rattle.walking.proofs.Depths.{in_limit}
 use Rattle.checking.specs.Reading.{done}
 use Rattle.checking.specs.Read.{done_read}
 use Rattle.encoding.specs.Fields.{var_uint_size}
-use Rattle.encoding.specs.Heads.{wrapped_bytes, wrapper_bytes}
+use Rattle.encoding.specs.Heads.{wrapped_bytes}
 use Rattle.encoding.proofs.Heads.{wrapped_length}
 use Rattle.writing.specs.Things.{wrapper}
 use Rattle.writing.specs.Answers.{past_nine, judged_wrapper}
