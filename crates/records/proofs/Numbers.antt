@@ -4,8 +4,9 @@ use Prim.Native.Nat.{ℕ, ◌*◌}
 use mathlib.Core.Path.{◌≡◌, refl, ◌∙◌, ap}
 use mathlib.Core.List.{List}
 use lib.ListN.{length}
-use lib.Dec.{ltb}
+use lib.Dec.{eqb, ltb}
 use Rattle.numbers.specs.Outcome.{Outcome, gives, refuses, and_then, pick}
+use Rattle.numbers.proofs.Outcomes.{by_case}
 use Rattle.framing.specs.Spans.{Spans}
 use Rattle.framing.specs.Answers.{Annotated, ident, finished}
 use Rattle.bodies.specs.Decimal.{Split}
@@ -13,7 +14,7 @@ use Rattle.stepping.specs.Items.{Item, finish, marker, value, field}
 use Rattle.values.specs.Scalars.{value_in, Opened, opened, Scalar, scalar_of, read_scalar, with_value, read_with_value}
 use Rattle.values.specs.Timestamps.{Dated, stamped, other}
 use Rattle.records.specs.FirstWords.{entered_at, enter, Number}
-use Rattle.records.specs.Words.{words, annotation_words, body_words, scalar_words, reading_words, number_words, decimal_words, timestamp_words, check_words}
+use Rattle.records.specs.Words.{words, annotation_words, body_words, scalar_words, reading_words, number_words, decimal_words, timestamp_words, check_words, bytes_words}
 use Rattle.records.specs.Buffer.{word_size, number_of, answered, number_in, words_in, words_returned}
 
 pub step_number : (o : Outcome Item) → number_in (words o) ≡ number_of o
@@ -74,6 +75,11 @@ pub check-number : (o : Outcome (List ℕ)) → number_in (check_words o) ≡ nu
 unfolding number_in
 check-number (gives c) = refl
 check-number (refuses n p) = refl
+
+pub bytes_number : (kind : ℕ) (o : Outcome ℕ) → number_in (bytes_words kind o) ≡ number_of o
+unfolding number_in
+bytes_number kind (gives n) = by_case (eqb kind 9) (λ e. rw e) (λ e. rw e)
+bytes_number kind (refuses n p) = refl
 
 -- what a call that puts an answer's words returns
 pub returned-by : {A : Type 0} (n : ℕ) (ws old : List ℕ) (o : Outcome A) → number_in ws ≡ number_of o → words_returned n ws old ≡ answered n old o
