@@ -12,7 +12,7 @@ ghost use Rattle.checking.specs.Private.Items.{Below, Placed};
 ghost use Rattle.checking.specs.Private.Whole.{full};
 
 use crate::counts::{Counts, MARKERS};
-use crate::item::{check_head, meet};
+use crate::item::{Map, check_head, meet};
 use framing::encoded_value::EncodedValue;
 use framing::limits::out_of_range;
 use numbers::refusal::{Reason, Refusal};
@@ -25,27 +25,26 @@ const LEAST_ROOM: usize = 1;
 // Checks the part at..end, whose containers may be `room` deeper: its values in order.
 #[cycle(check_part_check_value)]
 fn check_part(
-    s: &[u8],
+    map: &Map,
     counts: &mut Counts,
     rules: Rules,
     room: usize,
     at: usize,
     end: usize,
-    limit: usize,
 ) -> Result<(), Refusal>
-    requires { (at ≤ end) × (end ≤ length s.now) × (out_of_range limit ≡ false) × Below at counts.old.places }
-    ensures { verdict_read result counts.new.places ≡ full limit s.now rules room end at counts.old.places }
+    requires { (at ≤ end) × (end ≤ length map.now.s.now) × Below at counts.old.places }
+    ensures { verdict_read result counts.new.places ≡ full map.now.limit map.now.s.now rules room end at counts.old.places }
 {
     let mut from = at;
     loop {
-        match meet(s, counts, rules, from, end, limit)? {
+        match meet(map, counts, rules, from, end)? {
             Item::End { .. } => return Ok(()),
             Item::Marker { end: past, .. } => {
                 counts.add(MARKERS, 1);
                 from = past;
             }
             Item::Value(value) | Item::Field { value, .. } => {
-                check_value(s, counts, room, value, limit)?;
+                check_value(map, counts, room, value)?;
                 from = value.end;
             }
         }
@@ -55,16 +54,15 @@ fn check_part(
 // Checks a value: what is read of it, and then its inside.
 #[cycle(check_part_check_value)]
 fn check_value(
-    s: &[u8],
+    map: &Map,
     counts: &mut Counts,
     room: usize,
     value: EncodedValue,
-    limit: usize,
 ) -> Result<(), Refusal>
-    requires { Placed s.now (spans_of value) × (out_of_range limit ≡ false) × Below value.descriptor counts.old.places }
-    ensures { verdict_read result counts.new.places ≡ value_check s.now (full limit s.now) room (spans_of value) counts.old.places }
+    requires { Placed map.now.s.now (spans_of value) × Below value.descriptor counts.old.places }
+    ensures { verdict_read result counts.new.places ≡ value_check map.now.s.now (full map.now.limit map.now.s.now) room (spans_of value) counts.old.places }
 {
-    let Some(rules) = check_head(s, counts, value)? else {
+    let Some(rules) = check_head(map.s, counts, value)? else {
         return Ok(());
     };
     if room < LEAST_ROOM {
@@ -73,7 +71,7 @@ fn check_value(
             position: value.descriptor,
         });
     }
-    check_part(s, counts, rules, room - 1, value.body, value.end, limit)
+    check_part(map, counts, rules, room - 1, value.body, value.end)
 }
 
 // Checks a whole map: what it holds, or the first refusal.
@@ -86,8 +84,9 @@ pub fn check_map(s: &[u8], limit: usize, deepest: usize) -> Result<Counts, Refus
             position: 0,
         });
     }
+    let map = Map { s, limit };
     let mut counts = Counts::none();
-    check_part(s, &mut counts, Rules::Stream, deepest, 0, s.len(), limit)?;
+    check_part(&map, &mut counts, Rules::Stream, deepest, 0, s.len())?;
     Ok(counts)
 }
 
@@ -101,6 +100,7 @@ pub fn check_body(s: &[u8], rules: Rules, room: usize, limit: usize) -> Result<(
             position: 0,
         });
     }
+    let map = Map { s, limit };
     let mut counts = Counts::none();
-    check_part(s, &mut counts, rules, room, 0, s.len(), limit)
+    check_part(&map, &mut counts, rules, room, 0, s.len())
 }

@@ -22,6 +22,14 @@ use stepping::cursor::{Item, Rules};
 use timestamps::timestamp::read_timestamp;
 use values::value::{Scalar, open, read_placed};
 
+// The map that is checked, and the most bytes that its values' annotations may have: what a call of each level has in one place.
+#[derive(Clone, Copy)]
+pub(crate) struct Map<'a> {
+    pub(crate) s: &'a [u8],
+    pub(crate) limit: usize,
+    ghost in_range: { out_of_range limit ≡ false },
+}
+
 // Reads each annotation ID of the bytes start..end.
 pub fn read_ids(s: &[u8], start: usize, end: usize) -> Result<(), Refusal>
     ensures { done_read result ≡ read_ids s.now start end }
@@ -68,18 +76,17 @@ fn read_item(s: &[u8], value: EncodedValue) -> Result<(), Refusal>
 
 // What the step at `at` answers, with the pads that it skips counted.
 pub(crate) fn meet(
-    s: &[u8],
+    map: &Map,
     counts: &mut Counts,
     rules: Rules,
     at: usize,
     end: usize,
-    limit: usize,
 ) -> Result<Item, Refusal>
-    requires { (at ≤ end) × (end ≤ length s.now) × (out_of_range limit ≡ false) × Below at counts.old.places }
-    ensures meets { (inside : Parts) (onward : ℕ → List ℕ → Outcome (List ℕ)) (room : ℕ) → on_found s.now inside onward room counts.old.places (found limit rules s.now (cursor at end)) ≡ on_answer s.now inside onward room counts.new.places (item_read result) }
-    ensures fits { Fits s.now at end counts.new.places (item_read result) }
+    requires { (at ≤ end) × (end ≤ length map.now.s.now) × Below at counts.old.places }
+    ensures meets { (inside : Parts) (onward : ℕ → List ℕ → Outcome (List ℕ)) (room : ℕ) → on_found map.now.s.now inside onward room counts.old.places (found map.now.limit rules map.now.s.now (cursor at end)) ≡ on_answer map.now.s.now inside onward room counts.new.places (item_read result) }
+    ensures fits { Fits map.now.s.now at end counts.new.places (item_read result) }
 {
-    let step = count_at(rules, s, at, end, limit);
+    let step = count_at(rules, map.s, at, end, map.limit);
     counts.add(PADS, step.pads as u64);
     step.item
 }

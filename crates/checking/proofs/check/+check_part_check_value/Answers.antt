@@ -23,13 +23,13 @@ use Rattle.checking.proofs.check.+check_part_check_value.Goals as goal
 use Rattle.checking.proofs.check.+check_part_check_value.Goals.{check_part-After-meet, check_part-After-check_value}
 
 -- behind what is met, the part's check goes on as from its start
-after : {t : ℕ} (c : check_part-After-meet t) {x : Result ItemEnum Refusal} → c.meet.result ≡ x → let a = c.args in on_answer a.s.now (full a.limit a.s.now) (full a.limit a.s.now a.rules a.room a.end) a.room c.meet.new.counts.places (item_read x) ≡ full a.limit a.s.now a.rules a.room a.end a.at a.counts.now.places
+after : {t : ℕ} (c : check_part-After-meet t) {x : Result ItemEnum Refusal} → c.meet.result ≡ x → let a = c.args in on_answer a.map.now.s.now (full a.map.now.limit a.map.now.s.now) (full a.map.now.limit a.map.now.s.now a.rules a.room a.end) a.room c.meet.new.counts.places (item_read x) ≡ full a.map.now.limit a.map.now.s.now a.rules a.room a.end a.at a.counts.now.places
 after c h =
     let a = c.args in
     let l = c.loop-past in
-    ap (λ (x : Result ItemEnum Refusal). on_answer a.s.now (full a.limit a.s.now) (full a.limit a.s.now a.rules a.room a.end) a.room c.meet.new.counts.places (item_read x)) (sym h)
-    ∙ sym (c.meet.ensures.meets (full a.limit a.s.now) (full a.limit a.s.now a.rules a.room a.end) a.room)
-    ∙ sym (unrolled a.limit a.s.now c.requires.2 a.rules a.room a.end l.from l.counts.places l.invariant.0 c.requires.1)
+    ap (λ (x : Result ItemEnum Refusal). on_answer a.map.now.s.now (full a.map.now.limit a.map.now.s.now) (full a.map.now.limit a.map.now.s.now a.rules a.room a.end) a.room c.meet.new.counts.places (item_read x)) (sym h)
+    ∙ sym (c.meet.ensures.meets (full a.map.now.limit a.map.now.s.now) (full a.map.now.limit a.map.now.s.now a.rules a.room a.end) a.room)
+    ∙ sym (unrolled a.map.now.limit a.map.now.s.now a.map.now.in_range a.rules a.room a.end l.from l.counts.places l.invariant.0 c.requires.1)
     ∙ l.invariant.2
 
 pub check_part-returns-in-End : goal.check_part-returns-in-End
@@ -44,10 +44,10 @@ check_part-loop-past-preserved-in-Marker-1 t c =
     let a = c.args in
     let e = c.in-Marker.past in
     let d = c.meet.new.counts.places in
-    let f = subst (λ (x : ItemEnum). Fits a.s.now c.loop-past.from a.end d (gives (places_of x))) c.in-Marker.is c.in_ok-meet.ensures.fits in (
+    let f = subst (λ (x : ItemEnum). Fits a.map.now.s.now c.loop-past.from a.end d (gives (places_of x))) c.in-Marker.is c.in_ok-meet.ensures.fits in (
       f.1,
       subst (Below e) (sym c.add.ensures) (below_counting (e - 1) e 0 1 d f.2 (omega (arith, f.0))),
-      ap (full a.limit a.s.now a.rules a.room a.end e) c.add.ensures ∙ after (goal.at.check_part-loop-past-preserved-in-Marker-1 t c).After-meet (c.in_ok-meet.was ∙ ap Ok c.in-Marker.is),
+      ap (full a.map.now.limit a.map.now.s.now a.rules a.room a.end e) c.add.ensures ∙ after (goal.at.check_part-loop-past-preserved-in-Marker-1 t c).After-meet (c.in_ok-meet.was ∙ ap Ok c.in-Marker.is),
     )
 
 -- a value that was met is of one of the two kinds of item that have one
@@ -63,12 +63,12 @@ value_fits s at hi d (inl e) f = subst (λ (y : ItemEnum). Fits s at hi d (gives
 value_fits s at hi d (inr (a, b, e)) f = subst (λ (y : ItemEnum). Fits s at hi d (gives (places_of y))) e f
 
 -- what its check comes to, and then the rest of the part
-behind : {t : ℕ} (c : check_part-After-check_value t) {o : Outcome (List ℕ)} → o ≡ value_check c.args.s.now (full c.args.limit c.args.s.now) c.args.room (spans_of c.in-Value.value) c.meet.new.counts.places → let a = c.args in let on = full a.limit a.s.now a.rules a.room a.end in on_answer a.s.now (full a.limit a.s.now) on a.room c.meet.new.counts.places (gives (places_of c.in_ok-meet.field-0)) ≡ on a.at a.counts.now.places → and_then o (on c.in-Value.value.end) ≡ on a.at a.counts.now.places
+behind : {t : ℕ} (c : check_part-After-check_value t) {o : Outcome (List ℕ)} → o ≡ value_check c.args.map.now.s.now (full c.args.map.now.limit c.args.map.now.s.now) c.args.room (spans_of c.in-Value.value) c.meet.new.counts.places → let a = c.args in let on = full a.map.now.limit a.map.now.s.now a.rules a.room a.end in on_answer a.map.now.s.now (full a.map.now.limit a.map.now.s.now) on a.room c.meet.new.counts.places (gives (places_of c.in_ok-meet.field-0)) ≡ on a.at a.counts.now.places → and_then o (on c.in-Value.value.end) ≡ on a.at a.counts.now.places
 behind c e h =
     let a = c.args in
-    let on = full a.limit a.s.now a.rules a.room a.end in
+    let on = full a.map.now.limit a.map.now.s.now a.rules a.room a.end in
     ap (λ (o : Outcome (List ℕ)). and_then o (on c.in-Value.value.end)) e
-    ∙ valued a.s.now (full a.limit a.s.now) on a.room c.meet.new.counts.places c.in-Value.is
+    ∙ valued a.map.now.s.now (full a.map.now.limit a.map.now.s.now) on a.room c.meet.new.counts.places c.in-Value.is
     ∙ h
 
 pub check_part-returns-in_err-check_value-in-Value : goal.check_part-returns-in_err-check_value-in-Value
@@ -81,9 +81,9 @@ check_part-loop-past-preserved t c =
     let a = c.args in
     let v = spans_of c.in-Value.value in
     let e = c.in_ok-check_value-in-Value.ensures in
-    let f = value_fits a.s.now c.loop-past.from a.end c.meet.new.counts.places c.in-Value.is c.in_ok-meet.ensures.fits in
+    let f = value_fits a.map.now.s.now c.loop-past.from a.end c.meet.new.counts.places c.in-Value.is c.in_ok-meet.ensures.fits in
     let k = v.end - v.body in (
       f.1,
-      each_of (value_below a.s.now k (full a.limit a.s.now) (full_below a.s.now a.limit k) a.room v.descriptor v.end v c.meet.new.counts.places (placed_in a.s.now v f.2) f.2.within (omega arith) f.3) (sym e),
+      each_of (value_below a.map.now.s.now k (full a.map.now.limit a.map.now.s.now) (full_below a.map.now.s.now a.map.now.limit k) a.room v.descriptor v.end v c.meet.new.counts.places (placed_in a.map.now.s.now v f.2) f.2.within (omega arith) f.3) (sym e),
       behind (goal.at.check_part-loop-past-preserved t c).After-check_value e (after (goal.at.check_part-loop-past-preserved t c).After-meet c.in_ok-meet.was),
     )

@@ -26,7 +26,7 @@ returns-then-out_of_range c = rw (sym c.out_of_range.ensures ∙ c.if-out_of_ran
 
 pub check_part-requires : goal.check_part-requires
 check_part-requires c =
-    (omega arith, omega arith, sym c.out_of_range.ensures ∙ c.if-out_of_range.false, subst (Below 0) (sym c.none-counts.ensures) below_none)
+    (omega arith, omega arith, subst (Below 0) (sym c.none-counts.ensures) below_none)
 
 pub returns : goal.returns
 unfolding limited_body body_check full

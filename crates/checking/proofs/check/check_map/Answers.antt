@@ -24,10 +24,13 @@ returns-then-limits_out c =
     let a = c.args in
     ap answer_of (sym (whole_out a.limit a.deepest a.s.now (sym c.limits_out.ensures ∙ c.if-limits_out.true)))
 
+pub invariant_of-map : goal.invariant_of-map
+invariant_of-map c = record { in_range = in_limit c.args.limit c.args.deepest (sym c.limits_out.ensures ∙ c.if-limits_out.false) }
+
 pub check_part-requires : goal.check_part-requires
 check_part-requires c =
     let a = c.args in
-    (omega arith, omega arith, in_limit a.limit a.deepest (sym c.limits_out.ensures ∙ c.if-limits_out.false), subst (Below 0) (sym c.none-counts.ensures) below_none)
+    (omega arith, omega arith, subst (Below 0) (sym c.none-counts.ensures) below_none)
 
 -- a refusal that is handed on
 refused : (r : Result Counts Refusal) (e : Refusal) → IsErrAnd r (λ x. x ≡ e) → checked_read r ≡ answer_of (refusal_read e)
