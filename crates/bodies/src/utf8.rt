@@ -72,6 +72,7 @@ pub fn is_utf8(s: &[u8], at: usize, end: usize) -> bool
     if numbers::binary_buffer::outside(s, at, end) {
         return false;
     }
+    // No `for` over the bytes: a sequence takes one to four of them.
     let mut i = at;
     while i < end {
         if s[i] < 0x80 {

@@ -1,6 +1,7 @@
 // Frames what stands at a position: values, pads and annotation wrappers.
 //
-// Each function reads the part at..end of `s`, whose first byte is the descriptor; `limit` is the most bytes that a value's annotations may have.
+// Each function reads the part at..end of `s`, whose first byte is the descriptor; `limit` is the most bytes that a value's annotations may have. The public ones
+// take these as parameters and no struct of them, since the layers above hand them on as C gave them; behind the first look they are in a `Described`.
 ghost use Rattle.std.specs.Prelude.{◌≡◌, ℕ, ◌+◌, ◌≤◌, ◌<◌, length, get_or, IfOk};
 ghost use Rattle.framing.specs.Answers.{peeked_descriptor, is_pad, is_wrapper, no_value, pad_at, value_at, frame_at, read_value, read_frame, read_value_length, read_pad, read_wrapper};
 ghost use Rattle.framing.specs.Limits.{limited};

@@ -1,6 +1,7 @@
 // Reads VarUInts, VarInts and Ints from a part of a slice.
 //
-// Each function reads the part at..end of `s`. Where at ≤ end ≤ the slice's length does not hold it refuses with 50 at 0.
+// Each function reads the part at..end of `s`. Where at ≤ end ≤ the slice's length does not hold it refuses with 50 at 0. The three are parameters and no struct
+// of them, since callers of other languages give them so, and a contract would name a struct's fields where it names `s.now`, `at` and `end`.
 ghost use Rattle.std.specs.Prelude.{◌≡◌, ℕ, ◌+◌, ◌-◌, ◌≤◌, ◌<◌, ◌^◌, length};
 ghost use Rattle.numbers.specs.Outcome.{outside_of};
 ghost use Rattle.numbers.specs.Answers.{most_bytes, var_uint, var_int, int, int_rest};
@@ -75,7 +76,7 @@ fn read_groups(
     })
 }
 
-// The first bytes of a VarUInt, three at most.
+// The first bytes of a VarUInt, three at most. Each of the three cases tells something: an Option of two of them would be no plainer.
 #[derive(Clone, Copy)]
 enum FirstBytes {
     // They are all of it.

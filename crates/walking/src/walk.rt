@@ -288,6 +288,7 @@ impl Walk {
     {
         let mut place = self.place();
         let mut count = 0;
+        // No `for` over a range: where a body ends, a turn hands out nothing and is not counted.
         while count < most {
             let depth = place.depth;
             if limits.depth < depth {
