@@ -1,19 +1,19 @@
 // A step whose record is put into a lent buffer.
 //
 // `limit` is the most bytes that a value's annotations may have.
-ghost use Rattle.std.specs.Prelude.{◌≡◌, false, ◌≤◌, length};
+ghost use Rattle.std.specs.Prelude.{◌≡◌};
 ghost use Rattle.numbers.specs.Read.{outcome};
-ghost use Rattle.framing.specs.Limits.{out_of_range};
 ghost use Rattle.stepping.specs.Answers.{answer_at};
 ghost use Rattle.stepping.specs.Names.{answer_from};
 ghost use Rattle.stepping.specs.Read.{name_of};
-ghost use Rattle.records.specs.Buffer.{record_size, record_in};
+ghost use Rattle.records.specs.Buffer.{record_in};
 ghost use Rattle.records.specs.Words.{words};
 ghost use Rattle.maps.specs.Inside.{part_rules};
 ghost use Rattle.maps.specs.Put.{put_by};
 
 use framing::binary_buffer::short_value;
 use framing::limits::out_of_range;
+use numbers::binary_buffer::outside;
 use numbers::refusal::Refusal;
 use records::buffer::put_record;
 use records::words::{
@@ -52,8 +52,7 @@ fn put_long(
     limit: usize,
     out: &mut [u8],
 ) -> ControlFlow<u64, usize>
-    requires { record_size ≤ length out.old }
-    ensures value { result ≡ put_by (answer_from limit rules map.now at end (name_of name)) }
+    ensures value { result ≡ put_by (answer_from limit rules map.now at end (name_of name)) out.old }
     ensures out_after { out.new ≡ record_in (words (answer_from limit rules map.now at end (name_of name))) out.old }
 {
     match item_from(rules, map, at, name.id, name.next, end, limit) {
@@ -78,11 +77,15 @@ pub fn put_step(
     limit: usize,
     out: &mut [u8],
 ) -> ControlFlow<u64, usize>
-    requires part { (out_of_range limit ≡ false) × (at ≤ end) × (end ≤ length map.now) }
-    requires room { record_size ≤ length out.old }
-    ensures value { result ≡ put_by (answer_at limit rules map.now at end) }
+    ensures value { result ≡ put_by (answer_at limit rules map.now at end) out.old }
     ensures out_after { out.new ≡ record_in (words (answer_at limit rules map.now at end)) out.old }
 {
+    if out_of_range(limit) {
+        return ControlFlow::Break(put_record(out, refused_words(LIMIT_OUT_OF_RANGE)));
+    }
+    if outside(map, at, end) {
+        return ControlFlow::Break(put_record(out, refused_words(OUTSIDE)));
+    }
     if end <= at {
         return ControlFlow::Break(put_record(out, end_words(end)));
     }

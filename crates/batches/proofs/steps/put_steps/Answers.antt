@@ -16,7 +16,7 @@ use Rattle.records.specs.Buffer.{bytes_of, record_size, number_of}
 use Rattle.records.specs.Words.{words}
 use Rattle.batches.specs.Steps.{all_words, last_number}
 use Rattle.batches.specs.Private.Run.{step_run}
-use Rattle.maps.proofs.Putting.{at_left, over_left}
+use Rattle.maps.proofs.Putting.{at_left, over_left, returned_room}
 use Rattle.batches.proofs.ManySteps.{one_more, the_last, none_left, left_in, words_all, next_record, put_part}
 use Rattle.batches.proofs.steps.put_steps.Goals as goal
 use Rattle.batches.proofs.steps.put_steps.Goals.{After-put_step}
@@ -41,10 +41,12 @@ module _ (b : After-put_step) where
   within = omega (arith, b.loop-i-test.true, b.loop-i.auto.out)
 
   goes_on : (e : ℕ) → b.put_step.result ≡ Continue e → (left_of o ≡ Some e) × (number_of o ≡ 0)
-  goes_on e h = at_left o e (sym b.put_step.ensures.value ∙ h)
+  goes_on e h = at_left o e part (sym b.put_step.ensures.value ∙ h)
 
   is_over : (n : ℕ) → b.put_step.result ≡ Break n → (left_of o ≡ None) × (n ≡ number_of o)
-  is_over n h = over_left o n (sym b.put_step.ensures.value ∙ h)
+  is_over n h =
+      let p = over_left o n part (sym b.put_step.ensures.value ∙ h) in
+      (p.0, p.1 ∙ returned_room part (omega (arith, mid_len from (from + record_size) b.loop-i.out within)) o)
 
   room_is : room - b.loop-i.i ≡ suc (room - (b.loop-i.i + 1))
   room_is = omega (arith, b.loop-i-test.true)
@@ -96,13 +98,6 @@ returns-in-Break c =
       number_value = h.1 ∙ sym (ap (last_number 0) m) ∙ l.invariant.last;
       out_after = stored b [] m;
     }
-
-pub put_step-requires : goal.put_step-requires
-put_step-requires c =
-    let l = c.loop-i in
-    let from = l.i * record_size in
-    let w : from + record_size ≤ length l.out = omega (arith, c.loop-i-test.true, l.auto.out) in
-    record { part = (c.requires.0, l.invariant.order, c.requires.2); room = omega (arith, mid_len from (from + record_size) l.out w) }
 
 pub returns : goal.returns
 returns c =

@@ -32,17 +32,12 @@ unfolding answered words_in
 returns-then-out-lt-RECORD_SIZE c =
     let e = lt-ltb _ _ c.if-out-lt-RECORD_SIZE.true in record { value = rw e c.number.ensures; out_after = rw e }
 
-pub put_step-requires : goal.put_step-requires
-put_step-requires c =
-    let g = rules_given (goal.at.put_step-requires c).In-Ok in
-    record { part = (g.ranged, g.within.order, g.within.high); room = c.if-out-lt-RECORD_SIZE.false }
-
 pub returns-in-Continue : goal.returns-in-Continue
 returns-in-Continue c =
     let a = c.args in
     let e = stepped (goal.at.returns-in-Continue c).In-Ok in
     let o = answer_at a.limit c.in-Ok.rules a.map.now a.position a.end in
-    let n = (at_left o c.in-Continue.field-0 (sym c.put_step.ensures.value ∙ c.in-Continue.is)).1 in
+    let n = (at_left o c.in-Continue.field-0 a.out.now (sym c.put_step.ensures.value ∙ c.in-Continue.is)).1 in
     record {
       value = sym (returned_room a.out.now c.if-out-lt-RECORD_SIZE.false o ∙ n) ∙ ap (answered 9 a.out.now) e;
       out_after = c.put_step.ensures.out_after ∙ ap (λ (x : Outcome _). record_in (words x) a.out.now) e;
@@ -53,9 +48,9 @@ returns-in-Break c =
     let a = c.args in
     let e = stepped (goal.at.returns-in-Break c).In-Ok in
     let o = answer_at a.limit c.in-Ok.rules a.map.now a.position a.end in
-    let n = (over_left o c.in-Break.number (sym c.put_step.ensures.value ∙ c.in-Break.is)).1 in
+    let n = (over_left o c.in-Break.number a.out.now (sym c.put_step.ensures.value ∙ c.in-Break.is)).1 in
     record {
-      value = n ∙ sym (returned_room a.out.now c.if-out-lt-RECORD_SIZE.false o) ∙ ap (answered 9 a.out.now) e;
+      value = n ∙ ap (answered 9 a.out.now) e;
       out_after = c.put_step.ensures.out_after ∙ ap (λ (x : Outcome _). record_in (words x) a.out.now) e;
     }
 

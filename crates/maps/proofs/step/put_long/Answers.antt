@@ -17,8 +17,8 @@ returns-in-Some c =
 
 pub returns-in-None : goal.returns-in-None
 returns-in-None c =
-    put_over c.args.out.now (handed (goal.at.returns-in-None c).In-Ok) c.item_words.ensures c.put_record-number.ensures c.requires (sym c.left_by.ensures ∙ c.in-None.is)
+    put_over c.args.out.now (handed (goal.at.returns-in-None c).In-Ok) c.item_words.ensures c.put_record-number.ensures (sym c.left_by.ensures ∙ c.in-None.is)
 
 pub returns-in-Err : goal.returns-in-Err
 returns-in-Err c =
-    put_over c.args.out.now (sym (ap item_read c.in-Err.is) ∙ c.item_from.ensures) c.refused_words.ensures c.put_record.ensures c.requires refl
+    put_over c.args.out.now (sym (ap item_read c.in-Err.is) ∙ c.item_from.ensures) c.refused_words.ensures c.put_record.ensures refl
