@@ -1,4 +1,5 @@
-// The exported readings that the change requests added: of a decimal, of a timestamp, of the field IDs that a step begins to read, and the check of a whole map.
+// The exported readings that the change requests added: of a decimal, of a timestamp, of the field IDs that a step begins to read, and the check of a whole
+// map.
 //
 // `limit` is the most bytes that a value's annotations may have, `deepest` the depth at which a container is too deep.
 ghost use Rattle.std.specs.Prelude.{◌≡◌};

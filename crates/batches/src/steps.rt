@@ -1,4 +1,4 @@
-// The exported run of steps: as many in one call as the lent buffer has room for.
+// The exported run of steps: as many in one call as the lent buffer has room for. The parameters, a kind as a number among them, and what is returned are C's.
 ghost use Rattle.std.specs.Prelude.{◌≡◌, false, ◌/◌, ◌≤◌, length};
 ghost use Rattle.std.proofs.lemmas.List.Edits.{sets};
 ghost use Rattle.framing.specs.Limits.{out_of_range};
@@ -20,7 +20,8 @@ struct Steps {
     number: u64,
 }
 
-// Puts the records of steps from `position` on, as many as there is room for.
+// Puts the records of steps from `position` on, as many as there is room for. Over the parts of the buffer the loop would be no plainer: they are counted
+// anyway, since how many were put is returned.
 fn put_steps(
     rules: Rules,
     map: &[u8],

@@ -1,7 +1,7 @@
 // The step as other languages call it, by the crate `maps_c`: a buffer is lent for the answer's record.
 //
 // `limit` is the most bytes that a value's annotations may have. This function, `ion_map_steps` of the crate `batches` and `ion_map_walked` of `walking` stand
-// apart, so that each is compiled with all that it calls for each item put in its place.
+// apart, so that each is compiled with all that it calls for each item put in its place. Its parameters, and the number that it returns, are C's.
 ghost use Rattle.std.specs.Prelude.{◌≡◌};
 ghost use Rattle.records.specs.Buffer.{record_in, returned};
 ghost use Rattle.records.specs.Words.{words};

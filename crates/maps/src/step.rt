@@ -1,6 +1,7 @@
 // A step whose record is put into a lent buffer.
 //
-// `limit` is the most bytes that a value's annotations may have.
+// `limit` is the most bytes that a value's annotations may have. A part's slice, its places and its limit are parameters of their own, since the exports to C
+// hand them on as they came.
 ghost use Rattle.std.specs.Prelude.{◌≡◌};
 ghost use Rattle.numbers.specs.Read.{outcome};
 ghost use Rattle.stepping.specs.Answers.{answer_at};

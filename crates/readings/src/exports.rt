@@ -1,6 +1,7 @@
-// The exported readings of what a step hands out: an annotation, the body of a container, a scalar, a number. The caller lends a buffer for the answer's record.
+// The exported readings of what a step hands out: an annotation, the body of a container, a scalar, a number. The caller lends a buffer for the answer's
+// record.
 //
-// `limit` is the most bytes that a value's annotations may have.
+// `limit` is the most bytes that a value's annotations may have. The parameters, a form as a number among them, and the numbers returned are C's.
 ghost use Rattle.std.specs.Prelude.{◌≡◌};
 ghost use Rattle.framing.specs.Read.{annotation_read};
 ghost use Rattle.values.specs.Scalars.{step_in, read_scalar, read_with_value};

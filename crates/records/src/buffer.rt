@@ -33,7 +33,8 @@ fn number_in(words: &[u64]) -> u64
     }
 }
 
-// Puts a record at the buffer's start. Returns 51 where there is no room for it, and nothing is written; else 0, or the number of the refusal that the record is.
+// Puts a record at the buffer's start. Returns 51 where there is no room for it, and nothing is written; else 0, or the number of the refusal that the record
+// is.
 pub fn put_record<const N: usize>(out: &mut [u8], words: [u64; N]) -> u64
     ensures value { result ≡ words_returned N words.entry out.old }
     ensures out_after { out.new ≡ words_in N words.entry out.old }

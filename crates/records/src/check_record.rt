@@ -20,7 +20,7 @@ pub fn counts_words(counts: [u64; 15]) -> [u64; CHECK_WORDS]
     words
 }
 
-// The words of a check that is refused.
+// The words of a check that is refused: those of any refusal, and zeros.
 pub fn refused_check_words(refusal: Refusal) -> [u64; CHECK_WORDS]
     ensures { result ≡ check_words (refusal_read refusal) }
 {

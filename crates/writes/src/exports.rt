@@ -1,4 +1,5 @@
-// The exported functions that write values. `to` is the lent buffer for what is written, `out` that for the answer's record; they and the lent bytes do not overlap.
+// The exported functions that write values. `to` is the lent buffer for what is written, `out` that for the answer's record; they and the lent bytes do not
+// overlap.
 ghost use Rattle.std.specs.Prelude.{◌≡◌, ◌<◌, ◌≤◌, ℕ, length, eqb};
 ghost use Rattle.std.specs.Fn.{FnOnceReturnsAtMut};
 ghost use Rattle.records.specs.Buffer.{record_size, record_in, returned};
