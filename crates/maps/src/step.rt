@@ -21,7 +21,10 @@ use records::words::{
     LIMIT_OUT_OF_RANGE, OUTSIDE, bare_words, end_words, item_words, refused_words,
 };
 use std::ops::ControlFlow;
-use stepping::cursor::{Name, Rules, item_from, left_by, read_name};
+use stepping::cursor::{Name, Rules, item_from, left_by, read_name, rules_of};
+
+// The last of the kinds of a part. The kind is tested beside the places, and not by `Rules::try_from`, which takes a step some 8 instructions more.
+const LAST_KIND: u64 = 2;
 
 // The rules of the part start..end of the map, by its kind, where the limit is one, `at` is in the part, and there is such a kind.
 pub fn part_rules(
@@ -37,10 +40,10 @@ pub fn part_rules(
     if out_of_range(limit) {
         return Err(LIMIT_OUT_OF_RANGE);
     }
-    if map.len() < end || end < at || at < start {
+    if map.len() < end || end < at || at < start || LAST_KIND < kind {
         return Err(OUTSIDE);
     }
-    Rules::try_from(kind).or(Err(OUTSIDE))
+    Ok(rules_of(kind))
 }
 
 // Puts the record of whatever stands behind a name and is no short value.
