@@ -53,7 +53,10 @@ pub fn put_bytes(out: &mut [u8], at: usize, from: &[u8])
         return;
     }
     let n = from.len().min(out.len() - at);
-    out[at..at + n].copy_from_slice(&from[..n]);
+    // Byte by byte: by `copy_from_slice` the archive would ask its programs for `memmove`, where it asks for `memcpy` alone.
+    for i in 0..n {
+        out[at + i] = from[i];
+    }
 }
 
 // Puts a VarUInt of `n` in k + 1 bytes.
