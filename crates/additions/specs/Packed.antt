@@ -1,15 +1,10 @@
 -- The records of the change requests A.11 and A.12.
 -- Assumes nothing.
-use Rattle.std.specs.Prelude.{ℕ, List, [], ◌∷◌, length, ltb}
-use Rattle.numbers.specs.Outcome.{Outcome, gives, refuses, pick}
+use Rattle.std.specs.Prelude.{ℕ, List, length, ltb}
+use Rattle.numbers.specs.Outcome.{Outcome, pick}
 use Rattle.packing.specs.Answers.{buffer_of}
 use Rattle.records.specs.Buffer.{record_size}
-use Rattle.records.specs.Words.{refused_words}
-
--- a kind, 0, 0, a number of bytes, zeros
-abbrev pub bytes_words : ℕ → Outcome ℕ → List ℕ
-bytes_words kind (gives n) = kind ∷ 0 ∷ 0 ∷ n ∷ 0 ∷ 0 ∷ 0 ∷ 0 ∷ 0 ∷ []
-bytes_words kind (refuses number position) = refused_words number position
+use Rattle.records.specs.Words.{bytes_words}
 
 -- A.11: "kind 15, 0, 0, size, zeros"
 abbrev pub size_words : Outcome ℕ → List ℕ

@@ -1,4 +1,4 @@
-// The exported bounded step: it comes back behind a largest number of pads.
+// The exported bounded step: it comes back behind a largest number of pads. Its parameters, a kind as a number among them, and the number returned are C's.
 ghost use Rattle.std.specs.Prelude.{◌≡◌};
 ghost use Rattle.counting.specs.Read.{bounded_read};
 ghost use Rattle.records.specs.Buffer.{record_in, returned_by};
@@ -6,25 +6,25 @@ ghost use Rattle.additions.specs.Exported.{exported_bounded, bounded_words};
 
 use counting::counted::{Bounded, bounded_at};
 use framing::limits::out_of_range;
-use numbers::refusal::{LIMIT_OUT_OF_RANGE, Refusal};
 use records::buffer::{RECORD_WORDS, put_record};
-use records::words::{item_words, more_words, outside_words, refused_words};
-use stepping::cursor::{LAST_KIND, rules_of};
+use records::words::{LIMIT_OUT_OF_RANGE, OUTSIDE, item_words, more_words, refused_words};
+use stepping::cursor::Rules;
 
 // The words of a bounded step's answer.
 fn bounded_words(answer: Bounded) -> [u64; RECORD_WORDS]
     ensures { result ≡ bounded_words (bounded_read answer) }
 {
     match answer {
-        Bounded::Reached(counted) => {
-            let item = counted.item;
-            item_words(item)
-        }
+        Bounded::Reached(counted) => match counted.item {
+            Ok(item) => item_words(item),
+            Err(refusal) => refused_words(refusal),
+        },
         Bounded::More { pads, at } => more_words(pads, at),
     }
 }
 
 // The bounded step at `position` in the part start..end, by the part's kind.
+#[tactic(auto, unfolding(crate::specs::Exported::exported_bounded))]
 fn bounded_by_kind(
     map: &[u8],
     start: usize,
@@ -37,18 +37,14 @@ fn bounded_by_kind(
     ensures { result ≡ bounded_words (exported_bounded limit most map.now start end position kind) }
 {
     if out_of_range(limit) {
-        return refused_words(Refusal {
-            number: LIMIT_OUT_OF_RANGE,
-            position: 0,
-        });
+        return refused_words(LIMIT_OUT_OF_RANGE);
     }
-    if position < start {
-        return outside_words();
+    match Rules::try_from(kind) {
+        Ok(rules) if start <= position => {
+            bounded_words(bounded_at(rules, map, position, end, most, limit))
+        }
+        _ => refused_words(OUTSIDE),
     }
-    if LAST_KIND < kind {
-        return outside_words();
-    }
-    bounded_words(bounded_at(rules_of(kind), map, position, end, most, limit))
 }
 
 // One step past `most` pads at most: the record of `ion_map_step`, or one of kind 4.

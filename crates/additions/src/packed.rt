@@ -4,36 +4,24 @@
 ghost use Rattle.std.specs.Prelude.{◌≡◌, length};
 ghost use Rattle.records.specs.Buffer.{record_in, returned};
 ghost use Rattle.packing.specs.Answers.{size_of, pack_of};
-ghost use Rattle.packing.specs.Read.{size_read};
-ghost use Rattle.additions.specs.Packed.{bytes_words, size_words, pack_words, packed_in};
+ghost use Rattle.additions.specs.Packed.{size_words, pack_words, packed_in};
 
-use numbers::refusal::RECORD_TOO_SHORT;
+use numbers::refusal::Reason;
 use packing::pack::pack;
-use packing::size::{PackedSize, packed_size};
-use records::buffer::{RECORD_SIZE, RECORD_WORDS, put_record};
-use records::words::refused_words;
-
-// The kinds of the records.
-const SIZE: u64 = 15;
-
-const PACKED: u64 = 16;
-
-// The words of a record of this kind.
-fn bytes_words(kind: u64, size: PackedSize) -> [u64; RECORD_WORDS]
-    ensures { result ≡ bytes_words kind (size_read size) }
-{
-    match size {
-        PackedSize::Bytes(n) => [kind, 0, 0, n as u64, 0, 0, 0, 0, 0],
-        PackedSize::Refused(refusal) => refused_words(refusal),
-    }
-}
+use packing::size::packed_size;
+use records::buffer::{RECORD_SIZE, put_record};
+use records::kind::RecordKind;
+use records::words::bytes_words;
 
 // How many bytes a map has once it is packed.
 pub fn ion_map_packed_size(map: &[u8], limit: usize, deepest: usize, out: &mut [u8]) -> u64
     ensures value { result ≡ returned out.old (size_of limit deepest map.now) }
     ensures out_after { out.new ≡ record_in (size_words (size_of limit deepest map.now)) out.old }
 {
-    put_record(out, bytes_words(SIZE, packed_size(map, limit, deepest)))
+    put_record(
+        out,
+        bytes_words(RecordKind::PackedSize, packed_size(map, limit, deepest)),
+    )
 }
 
 // Packs a map into the buffer `packed`.
@@ -49,7 +37,10 @@ pub fn ion_map_pack(
     ensures out_after { out.new ≡ record_in (pack_words (pack_of limit deepest map.now (length packed.old))) out.old }
 {
     if out.len() < RECORD_SIZE {
-        return RECORD_TOO_SHORT;
+        return Reason::RecordTooShort.number();
     }
-    put_record(out, bytes_words(PACKED, pack(map, limit, deepest, packed)))
+    put_record(
+        out,
+        bytes_words(RecordKind::Packed, pack(map, limit, deepest, packed)),
+    )
 }

@@ -1,4 +1,5 @@
-// The exported readings that the change requests added: of a decimal, of a timestamp, of the field IDs that a step begins to read, and the check of a whole map.
+// The exported readings that the change requests added: of a decimal, of a timestamp, of the field IDs that a step begins to read, and the check of a whole
+// map.
 //
 // `limit` is the most bytes that a value's annotations may have, `deepest` the depth at which a container is too deep.
 ghost use Rattle.std.specs.Prelude.{◌≡◌};
@@ -11,15 +12,17 @@ ghost use Rattle.records.specs.Words.{decimal_words, timestamp_words, check_word
 ghost use Rattle.additions.specs.Exported.{exported_ids};
 
 use bodies::decimal::read_decimal;
-use checking::check::{Checked, check_map};
-use checking::item::Verdict;
+use checking::check::check_map;
+use checking::counts::Counts;
 use counting::counted::ids_begun;
+use numbers::refusal::Refusal;
 use records::buffer::put_record;
-use records::check_record::{CHECK_WORDS, counts_words, put_check, refused_check_words};
+use records::check_record::{CHECK_WORDS, counts_words, refused_check_words};
 use records::words::{decimal_words, timestamp_words};
 use values::value::read_timestamp;
 
 // How many field IDs the struct step at `position` in the part start..end began to read; 0 where it is refused with 68 or 50.
+#[tactic(auto, unfolding(crate::specs::Exported::exported_ids))]
 pub fn ion_map_ids(map: &[u8], start: usize, end: usize, position: usize, limit: usize) -> u64
     ensures { result ≡ exported_ids limit map.now start end position }
 {
@@ -56,14 +59,12 @@ pub fn ion_map_timestamp(
 }
 
 // The words of a check's answer.
-fn check_words(checked: Checked) -> [u64; CHECK_WORDS]
+fn check_words(checked: Result<Counts, Refusal>) -> [u64; CHECK_WORDS]
     ensures { result ≡ check_words (checked_read checked).outcome }
 {
-    let counts = checked.counts;
-    let verdict = checked.verdict;
-    match verdict {
-        Verdict::Accepted => counts_words(counts),
-        Verdict::Refused(refusal) => refused_check_words(refusal),
+    match checked {
+        Ok(counts) => counts_words(counts.places),
+        Err(refusal) => refused_check_words(refusal),
     }
 }
 
@@ -72,5 +73,5 @@ pub fn ion_map_check(map: &[u8], limit: usize, deepest: usize, out: &mut [u8]) -
     ensures value { result ≡ check_returned out.old (whole_check limit deepest map.now) }
     ensures out_after { out.new ≡ check_in (check_words (whole_check limit deepest map.now)) out.old }
 {
-    put_check(out, check_words(check_map(map, limit, deepest)))
+    put_record(out, check_words(check_map(map, limit, deepest)))
 }

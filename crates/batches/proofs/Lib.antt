@@ -1,4 +1,3 @@
-pub mod Putting
 pub mod ManySteps
 pub mod RunsOfCalls
 pub mod RecordsBegin

@@ -2,9 +2,11 @@
 -- Assumes nothing.
 use Prim.Native.Nat.{ℕ, zero, suc, ◌+◌, ◌-◌, ◌*◌, ◌≤◌}
 use native.Mathlib.Omega.{arith}
+use native.Mathlib.Nat.{add-zero}
+use Rattle.std.specs.Prelude.{Option, Some, None}
 use mathlib.Core.Path.{◌≡◌, refl, ◌∙◌, sym, ap}
 use mathlib.Core.List.{List, [], ◌∷◌, ◌++◌, append_assoc, append-nil}
-use lib.ListN.{length, take, drop, length-append, drop_of_length-le}
+use lib.ListN.{length, set, take, drop, length-append, drop_of_length-le}
 use borrow.Author.Tests.{le-ltb}
 use lib.Seq.{sets, sets-eq}
 use borrow.Rule.Slice.PartMut.{mid_of, post_of, put_mid, Post-is, mid_len}
@@ -12,49 +14,58 @@ use Rattle.numbers.specs.Outcome.{Outcome, gives, refuses}
 use Rattle.stepping.specs.Items.{Item, finish, marker, value, field}
 use Rattle.stepping.specs.Answers.{answer_at}
 use Rattle.stepping.specs.Leaving.{left_of, on_left}
-use Rattle.stepping.specs.declared.cursor.Left.{Left}
-use Rattle.stepping.specs.declared.cursor.Left.TheVariants.{At, Over}
 use Rattle.stepping.specs.declared.cursor.Rules.{Rules}
 use Rattle.stepping.proofs.Places.{a_marker, a_value, a_field, in_ends}
 use Rattle.stepping.proofs.Moves.{Moves, ends, hands, stops, moves}
-use Rattle.records.specs.Buffer.{bytes_of, record_words, record_size, record_in, number_of, number_in, returned_by}
+use Rattle.records.specs.Buffer.{bytes_of, record_words, record_size, record_in, words_in}
 use Rattle.records.specs.Words.{words}
-use Rattle.records.proofs.Storing.{sets_append, length_bytes, bytes_append, record_is}
+use Rattle.records.proofs.Storing.{length_bytes, bytes_append}
 use Rattle.batches.specs.Steps.{all_words, records_in}
 use Rattle.batches.specs.Private.Run.{step_run}
 
 -- ---- what follows an answer
 
--- the number of an answer with an end
-pub at_number : (o : Outcome Item) (e : ℕ) → left_of o ≡ At e → number_of o ≡ 0
-at_number (gives i) e h = refl
-at_number (refuses n p) e h = absurd (let z : ◌≡◌ {A = ℕ} 0 1 = cc in omega arith)
-
 module _ (limit : ℕ) (rules : Rules) (s : List ℕ) (at end : ℕ) {n m : ℕ} (q : n ≡ suc m) where
-  pub one_more : (e : ℕ) → left_of (answer_at limit rules s at end) ≡ At e → step_run limit n rules s at end ≡ answer_at limit rules s at end ∷ step_run limit m rules s e end
+  pub one_more : (e : ℕ) → left_of (answer_at limit rules s at end) ≡ Some e → step_run limit n rules s at end ≡ answer_at limit rules s at end ∷ step_run limit m rules s e end
   unfolding step_run
   one_more e h =
-      rw q (ap (λ (l : Left). answer_at limit rules s at end ∷ on_left l [] (λ p. step_run limit m rules s p end)) h)
+      rw q (ap (λ (l : Option ℕ). answer_at limit rules s at end ∷ on_left l [] (λ p. step_run limit m rules s p end)) h)
 
-  pub the_last : left_of (answer_at limit rules s at end) ≡ Over → step_run limit n rules s at end ≡ answer_at limit rules s at end ∷ []
+  pub the_last : left_of (answer_at limit rules s at end) ≡ None → step_run limit n rules s at end ≡ answer_at limit rules s at end ∷ []
   unfolding step_run
   the_last h =
-      rw q (ap (λ (l : Left). answer_at limit rules s at end ∷ on_left l [] (λ p. step_run limit m rules s p end)) h)
+      rw q (ap (λ (l : Option ℕ). answer_at limit rules s at end ∷ on_left l [] (λ p. step_run limit m rules s p end)) h)
 
 pub none_left : (limit : ℕ) (rules : Rules) (s : List ℕ) (at end : ℕ) {n : ℕ} → n ≡ 0 → step_run limit n rules s at end ≡ []
 unfolding step_run
 none_left limit rules s at end q = rw q
 
 -- an answer that leaves its caller at a place leaves it in the part
-pub left_in : (limit : ℕ) (rules : Rules) (s : List ℕ) (at end : ℕ) → at ≤ end → end ≤ length s → (e : ℕ) → left_of (answer_at limit rules s at end) ≡ At e → e ≤ end
+pub left_in : (limit : ℕ) (rules : Rules) (s : List ℕ) (at end : ℕ) → at ≤ end → end ≤ length s → (e : ℕ) → left_of (answer_at limit rules s at end) ≡ Some e → e ≤ end
 left_in limit rules s at end l m e = left_moved e (moves limit rules s end m at l)
   where
-    left_moved : (e : ℕ) {o : Outcome Item} → Moves at end o → left_of o ≡ At e → e ≤ end
-    left_moved e ends h = absurd (let z : ◌≡◌ {A = ℕ} 0 1 = cc in omega arith)
+    left_moved : (e : ℕ) {o : Outcome Item} → Moves at end o → left_of o ≡ Some e → e ≤ end
+    left_moved e ends h = absurd cc
     left_moved e (hands (a_marker {e = f} p q)) h = let z : f ≡ e = cc in omega arith
     left_moved e (hands (a_value {v} i)) h = let z : v.end ≡ e = cc in omega (arith, (in_ends (a_value i)).1)
     left_moved e (hands (a_field {id} {a} {v} i)) h = let z : v.end ≡ e = cc in omega (arith, (in_ends (a_field {id = id} {a = a} i)).1)
-    left_moved e (stops x) h = absurd (let z : ◌≡◌ {A = ℕ} 0 1 = cc in omega arith)
+    left_moved e (stops x) h = absurd cc
+
+-- ---- lists stored in a buffer one after the other
+
+sets_append : (l : List ℕ) (i : ℕ) (a b : List ℕ) → sets l i (a ++ b) ≡ sets (sets l i a) (i + length a) b
+sets_append l i [] b = rw (add-zero i)
+sets_append l i (x ∷ a) b =
+    let e : suc i + length a ≡ i + length (x ∷ a) = omega arith in
+    sets_append (set l i x) (suc i) a b ∙ ap (λ (k : ℕ). sets (sets (set l i x) (suc i) a) k b) e
+
+-- the words of a record stored at the buffer's start are the record
+record_is : (ws old : List ℕ) → length ws ≡ record_words → record_size ≤ length old → sets old 0 (bytes_of ws) ≡ record_in ws old
+unfolding words_in
+record_is ws old e h =
+    let n : length (bytes_of ws) ≡ record_size = omega (arith, length_bytes ws) in
+    let m : 0 + length (bytes_of ws) ≡ record_size = omega arith in
+    rw (le-ltb (length old) record_size h) (sets-eq (bytes_of ws) old 0 (omega arith) ∙ ap (λ (k : ℕ). bytes_of ws ++ drop k old) m)
 
 -- ---- their records
 
@@ -75,15 +86,11 @@ next_record l i o os =
 
 -- a buffer of a record's size is all record
 record_whole : (ws old : List ℕ) → length old ≡ record_size → record_in ws old ≡ bytes_of ws
-unfolding record_in
+unfolding words_in
 record_whole ws old e =
     let h : length old ≤ record_size = omega arith in
     rw (le-ltb (length old) record_size (omega arith))
     (ap (λ (l : List ℕ). bytes_of ws ++ l) (drop_of_length-le old h) ∙ append-nil (bytes_of ws))
-
-pub returned_whole : (ws old : List ℕ) → length old ≡ record_size → returned_by ws old ≡ number_in ws
-unfolding returned_by
-returned_whole ws old e = rw (le-ltb (length old) record_size (omega arith))
 
 -- a record put into the part of the buffer that is its own
 pub put_part : (ws old : List ℕ) (at : ℕ) → length ws ≡ record_words → at + record_size ≤ length old → put_mid at (at + record_size - at) old (record_in ws (mid_of at (at + record_size - at) old)) ≡ sets old at (bytes_of ws)
@@ -116,9 +123,9 @@ one_record o old h =
     ∙ records_are (o ∷ []) old (omega arith) h
 
 -- a list of n calls has n answers at most
-behind_short : (n : ℕ) (go : ℕ → List (Outcome Item)) → ((e : ℕ) → length (go e) ≤ n) → (l : Left) → length (on_left l [] go) ≤ n
-behind_short n go h (At e) = h e
-behind_short n go h Over = omega arith
+behind_short : (n : ℕ) (go : ℕ → List (Outcome Item)) → ((e : ℕ) → length (go e) ≤ n) → (l : Option ℕ) → length (on_left l [] go) ≤ n
+behind_short n go h (Some e) = h e
+behind_short n go h None = omega arith
 
 pub run_short : (limit : ℕ) (n : ℕ) (rules : Rules) (s : List ℕ) (at end : ℕ) → length (step_run limit n rules s at end) ≤ n
 unfolding step_run

@@ -3,7 +3,6 @@
 use Prim.Native.Nat.{ℕ, zero, suc, ◌≤◌, ◌<◌}
 use native.Mathlib.Omega.{arith}
 use mathlib.Core.Path.{◌≡◌, refl, ◌∙◌, sym, ap, subst}
-use mathlib.Core.Bool.{true, false}
 use mathlib.Core.List.{List, [], ◌∷◌, map}
 use lib.ListN.{length}
 use Rattle.numbers.specs.Outcome.{Outcome, refuses, outside_of}
@@ -19,10 +18,10 @@ use Rattle.stepping.proofs.Places.{a_marker, a_value, a_field, in_ends}
 use Rattle.stepping.proofs.Moves.{Moves, ends, hands, stops, moves}
 use Rattle.framing.specs.Limits.{out_of_range}
 use Rattle.batches.specs.Steps.{exported_run}
-use Rattle.maps.specs.Inside.{inside_of}
+use Rattle.maps.specs.Inside.{part_rules}
 use Rattle.batches.specs.Private.Run.{step_run}
 use Rattle.batches.specs.Theorems.{answer_of, RunsOfCalls}
-use Rattle.maps.proofs.Within.{refused_unranged, step_unranged, step_is, refused_outside, step_outside}
+use Rattle.maps.proofs.Within.{refused_unranged, step_is, refused_outside, not_given}
 
 -- the answer of a step, and the cursor that it leaves
 stepped : (limit : ℕ) (rules : Rules) (s : List ℕ) (at end : ℕ) → step_of limit rules s (cursor at end) ≡ record { answer = answer_at limit rules s at end; next = after (cursor at end) (answer_at limit rules s at end) }
@@ -102,12 +101,7 @@ module _ (limit : ℕ) (s : List ℕ) (start end kind : ℕ) (m : end ≤ length
       rw (step_is limit s start end at kind l k)
       (ap (λ (os : List (Outcome Item)). answer_at limit (rules_of kind) s at end ∷ os) (follows n at l (λ e h q. run_is n e (omega arith) k q) (moves limit (rules_of kind) s end m at o)))
 
--- with a limit that is none there is one, which is refused
-pub run_unranged : (limit : ℕ) (s : List ℕ) (start end at kind : ℕ) {n m : ℕ} → n ≡ suc m → out_of_range limit ≡ true → exported_run limit n s start end at kind ≡ refuses 68 0 ∷ []
+-- where the part's rules are refused there is one answer, which is refused alike
+pub run_refused : (limit : ℕ) (s : List ℕ) (start end at kind : ℕ) {n m number position : ℕ} → n ≡ suc m → part_rules limit s start end at kind ≡ refuses number position → exported_run limit n s start end at kind ≡ refuses number position ∷ []
 unfolding exported_run
-run_unranged limit s start end at kind q g = rw (q, step_unranged limit s start end at kind g)
-
--- outside there is one, which is refused
-pub run_outside : (limit : ℕ) (s : List ℕ) (start end at kind : ℕ) {n m : ℕ} → n ≡ suc m → out_of_range limit ≡ false → inside_of s start end at kind ≡ false → exported_run limit n s start end at kind ≡ refuses 50 0 ∷ []
-unfolding exported_run
-run_outside limit s start end at kind q g h = rw (q, step_outside limit s start end at kind g h)
+run_refused limit s start end at kind q e = rw (q, not_given limit s start end at kind e)

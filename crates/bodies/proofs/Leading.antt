@@ -6,30 +6,38 @@ use native.Mathlib.Numerals.{add-one}
 use native.Mathlib.Nat.{eq-or-lt_of_le, lt_of_not-le, le_of_suc-le-suc, le_antisymm, pow-le-pow_right, mul-le-mul_right}
 use mathlib.Core.Path.{◌≡◌, refl, ◌∙◌, sym, ap}
 use mathlib.Core.Logic.{⊎_elim}
+use mathlib.Core.Bool.{Bool, true, false, not, cond}
 use mathlib.Core.List.{List, [], ◌∷◌}
-use lib.ListN.{length, get_or}
-use lib.Dec.{eqb}
-use borrow.Author.Tests.{eq-eqb, ne_eqb, eqb-true, eqb-false}
+use lib.ListN.{length, get_or, take, drop}
+use lib.Dec.{eqb, ltb}
+use Rattle.std.specs.List.{position, position_or_len}
+use Rattle.std.proofs.Common.{Some, None}
+use Rattle.std.proofs.lemmas.List.Sums.{prefix_len-le-length}
+use borrow.Author.Tests.{eqb-true, eqb-false, ltb-false}
 use Rattle.numbers.specs.Format.{uint_of, of_digits}
 use Rattle.numbers.specs.Bytes.{part, Same}
 use Rattle.numbers.specs.Outcome.{outside_of}
-use Rattle.numbers.proofs.Outcomes.{by_test, inside, pick_same, inside_order}
-use Rattle.numbers.proofs.Parts.{part_cons, part_none}
+use Rattle.numbers.proofs.Outcomes.{by_test, by_case, inside, pick_same, inside_order, inside_end}
+use Rattle.numbers.proofs.Parts.{part_cons, part_none, part_length, part_taken}
 use Rattle.numbers.proofs.Locality.{outside_local}
 use Rattle.bodies.specs.Magnitude.{nonzero_among, significant_from}
 
-module _ (s : List ℕ) where
-  pub nonzero_here : (at end : ℕ) → at < end → (get_or s at 0 ≡ 0 → ⊥) → nonzero_among s at (end - at) ≡ at
-  unfolding nonzero_among
-  nonzero_here at end h b = let e : end - at ≡ suc (end - (at + 1)) = omega arith in rw (e, ne_eqb _ _ b)
+-- the first place whose byte is not zero, by the library's word for it
+among_position : (s : List ℕ) (n at end : ℕ) → at + n ≡ end → end ≤ length s → nonzero_among s at n ≡ at + position_or_len (λ b. not (eqb b 0)) (part s at end)
+unfolding nonzero_among
+among_position s zero at end e k = let d : at ≡ end = omega arith in rw (d, part_none s end) (omega arith)
+among_position s (suc n) at end e k =
+    rw (part_cons s at end (omega arith) k)
+    (by_case (eqb (get_or s at 0) 0)
+    (λ z. rw z (among_position s n (suc at) end (omega arith) k ∙ rw (add-one at) (omega arith)))
+    (λ z. rw z (omega arith)))
 
-  pub nonzero_on : (at end : ℕ) → at < end → get_or s at 0 ≡ 0 → nonzero_among s at (end - at) ≡ nonzero_among s (at + 1) (end - (at + 1))
-  unfolding nonzero_among
-  nonzero_on at end h b = let e : end - at ≡ suc (end - (at + 1)) = omega arith in rw (e, add-one at, eq-eqb _ _ b)
+position_found : (t : Bool) (k z : ℕ) → cond t (Some k) None ≡ Some z → k ≡ z
+position_found true k z e = cc
+position_found false k z e = cc
 
-  pub nonzero_none : (end : ℕ) → nonzero_among s end (end - end) ≡ end
-  unfolding nonzero_among
-  nonzero_none end = let e : end - end ≡ 0 = omega arith in rw e
+position_missed : (k n : ℕ) → cond (ltb k n) (Some k) None ≡ None → n ≤ k
+position_missed k n = by_case (ltb k n) (λ t. rw t (λ e. cc)) (λ t _. ltb-false k n t)
 
 -- no bytes, and a zero byte before the others, are worth nothing
 uint_none : uint_of [] ≡ 0
@@ -95,6 +103,9 @@ module _ (s : List ℕ) (at end : ℕ) (h : at ≤ end) (k : end ≤ length s) w
   unfolding significant_from
   significant_inside = rw (inside s at end h k)
 
+  significant_position : significant_from s at end ≡ at + position_or_len (λ b. not (eqb b 0)) (part s at end)
+  significant_position = significant_inside ∙ among_position s (end - at) at end (omega arith) k
+
   pub significant_begins : Begins s at end (significant_from s at end)
   significant_begins = rw significant_inside (begins_among s (end - at) at end (omega arith) k)
 
@@ -131,3 +142,30 @@ significant_local s t at end e same =
     rw (← outside_local s t at end e)
     (pick_same (outside_of s at end) (λ _. refl) (λ o.
     let h : at ≤ end = inside_order s at end o in among_local s t (end - at) at end (omega arith) same))
+
+-- where the first byte that is not zero was found, and where there was none
+module _ (s : List ℕ) (at end : ℕ) (inside : outside_of s at end ≡ false) where
+  order : at ≤ end
+  order = inside_order s at end inside
+
+  within : end ≤ length s
+  within = inside_end s at end inside
+
+  taken : take (end - at) (drop at s) ≡ part s at end
+  taken = part_taken s at end order within
+
+  pub significant_some : (z : ℕ) → position (λ b. not (eqb b 0)) (take (end - at) (drop at s)) ≡ Some z → at + z ≡ significant_from s at end
+  significant_some z e =
+      let e' : position (λ b. not (eqb b 0)) (part s at end) ≡ Some z = rw taken at e in
+      rw (← position_found _ _ z e') (sym (significant_position s at end order within))
+
+  pub significant_none : position (λ b. not (eqb b 0)) (take (end - at) (drop at s)) ≡ None → end ≡ significant_from s at end
+  significant_none e =
+      let e' : position (λ b. not (eqb b 0)) (part s at end) ≡ None = rw taken at e in
+      let q : length (part s at end) ≤ position_or_len (λ b. not (eqb b 0)) (part s at end) = position_missed _ _ e' in
+      let r : position_or_len (λ b. not (eqb b 0)) (part s at end) ≤ length (part s at end) = prefix_len-le-length _ (part s at end) in
+      omega (arith, order, part_length s at end within, significant_position s at end order within)
+
+pub significant_out : (s : List ℕ) (at end : ℕ) → outside_of s at end ≡ true → at ≡ significant_from s at end
+unfolding significant_from
+significant_out s at end o = rw o

@@ -3,18 +3,19 @@
 use Prim.Native.Nat.{ℕ, zero, suc, ◌+◌, ◌-◌, ◌≤◌, ◌<◌}
 use native.Mathlib.Omega.{arith}
 use native.Mathlib.Nat.{eq-or-lt_of_le, le_of_suc-le-suc}
-use mathlib.Core.Path.{◌≡◌, refl, sym, ap, ap₂}
-use mathlib.Core.Logic.{⊎_elim}
+use mathlib.Core.Path.{◌≡◌, refl, ◌∙◌, sym, ap, ap₂}
+use mathlib.Core.Logic.{◌⊎◌, inl, inr, ⊎_elim}
 use mathlib.Core.Bool.{Bool, true, false, true≢false}
 use mathlib.Core.Option.{Option, none, some}
 use mathlib.Core.List.{List, [], ◌∷◌}
-use lib.ListN.{length, get_or, replicate}
+use lib.ListN.{length, get_or, take, drop, replicate, length-replicate}
+use lib.Seq.{get_or-take, get_or-drop}
 use lib.Dec.{leb, ltb, eqb}
 use borrow.Author.Tests.{le-leb, lt-leb, le-ltb, ltb-false, ltb-true, eqb-true}
 use Rattle.numbers.specs.Outcome.{pick, outside_of}
 use Rattle.numbers.specs.Bytes.{part, Same}
 use Rattle.numbers.proofs.Outcomes.{by_test, pick_same, inside, inside_end}
-use Rattle.numbers.proofs.Parts.{part_cons, part_none, part_same}
+use Rattle.numbers.proofs.Parts.{part_cons, part_none, part_length, part_same}
 use Rattle.numbers.proofs.Locality.{outside_local}
 use Rattle.bodies.specs.Utf8.{Range, range, in_range, tail, table, row_of, if_some, goes_on, well_formed, utf8}
 use Rattle.bodies.specs.Private.Sequence.{tails_of, low_of, high_of, wanted}
@@ -157,15 +158,47 @@ module _ (s : List ℕ) (i end : ℕ) (h : i < end) (k : end ≤ length s) where
   pub part_lead : 128 ≤ get_or s i 0 → well_formed (part s i end) ≡ pick (eqb (tails_of (get_or s i 0)) 0) false (goes_on (part s (i + 1) end) (wanted (tails_of (get_or s i 0)) (low_of (get_or s i 0)) (high_of (get_or s i 0))))
   part_lead b = rw (part_cons s i end h k) (goes_lead (get_or s i 0) (part s (i + 1) end) b)
 
-pub wanted_short : (s : List ℕ) (end left low high : ℕ) → 0 < left → goes_on (part s end end) (wanted left low high) ≡ false
+-- fewer bytes than are wanted
+goes_short : (bs : List ℕ) (rs : List Range) → length bs < length rs → goes_on bs rs ≡ false
 unfolding goes_on
-wanted_short s end zero low high p = absurd (omega arith)
-wanted_short s end (suc n) low high p = rw (part_none s end)
+goes_short [] [] h = absurd (omega arith)
+goes_short [] (r ∷ rs) h = refl
+goes_short (b ∷ bs) [] h = absurd (omega arith)
+goes_short (b ∷ bs) (r ∷ rs) h =
+    by_test (λ t. t ≡ false) (in_range r b) (λ _. goes_short bs rs (omega arith)) (λ _. refl)
+
+wanted_length : (n low high : ℕ) → length (wanted n low high) ≡ n
+wanted_length zero low high = refl
+wanted_length (suc n) low high = ap suc (length-replicate n tail)
+
+pub wanted_short : (s : List ℕ) (at end left low high : ℕ) → at ≤ end → end ≤ length s → end < at + left → goes_on (part s at end) (wanted left low high) ≡ false
+wanted_short s at end left low high o k h =
+    goes_short (part s at end) (wanted left low high) (omega (arith, part_length s at end k, wanted_length left low high))
+
+-- the same of the i-th of `count` bytes from `from` on, as the machine takes them
+module _ (s : List ℕ) (from end count : ℕ) (k : from + count ≤ end) (l : end ≤ length s) where
+  taken_at : (i : ℕ) → i < count → get_or (take (from + count - from) (drop from s)) i 0 ≡ get_or s (from + i) 0
+  taken_at i h = get_or-take (from + count - from) (drop from s) i 0 (omega arith) ∙ get_or-drop from s i 0
+
+  pub wanted_step : (i low high : ℕ) → i < count → let b = get_or (take (from + count - from) (drop from s)) i 0 in low ≤ b → b ≤ high → goes_on (part s (from + i) end) (wanted (count - i) low high) ≡ goes_on (part s (from + (i + 1)) end) (wanted (count - (i + 1)) 0x80 0xBF)
+  wanted_step i low high h a b =
+      let e : from + (i + 1) ≡ from + i + 1 = omega arith in
+      let q : count - (i + 1) ≡ count - i - 1 = omega arith in
+      rw (e, q)
+      (wanted_in s (from + i) end (omega arith) l (count - i) low high (omega arith) (omega (arith, taken_at i h)) (omega (arith, taken_at i h)))
+
+  pub wanted_stop : (i low high : ℕ) → i < count → let b = get_or (take (from + count - from) (drop from s)) i 0 in (b < low) ⊎ (high < b) → goes_on (part s (from + i) end) (wanted (count - i) low high) ≡ false
+  wanted_stop i low high h (inl a) = wanted_below s (from + i) end (omega arith) l (count - i) low high (omega arith) (omega (arith, taken_at i h))
+  wanted_stop i low high h (inr a) = wanted_above s (from + i) end (omega arith) l (count - i) low high (omega arith) (omega (arith, taken_at i h))
 
 -- nothing more is well-formed
 pub ends_well : (s : List ℕ) (end : ℕ) → well_formed (part s end end) ≡ true
 unfolding goes_on
 ends_well s end = rw (part_none s end)
+
+pub utf8_out : (s : List ℕ) (at end : ℕ) → outside_of s at end ≡ true → utf8 s at end ≡ false
+unfolding utf8
+utf8_out s at end o = rw o
 
 pub utf8_inside : (s : List ℕ) (at end : ℕ) → at ≤ end → end ≤ length s → utf8 s at end ≡ well_formed (part s at end)
 unfolding utf8

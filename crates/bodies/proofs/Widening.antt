@@ -245,3 +245,14 @@ widen_one b w e h k =
     by_test (λ x. x ≡ w) (nan_bits binary32 b) (λ n. nan_joined b w h (k n)) (λ n.
     let m : is_nan (of_bits binary64 w) ≡ false = ap is_nan e ∙ sym (nan_bits_is binary32 b) ∙ n in
     ap (to_bits binary64) (sym e) ∙ to_bits-of_bits binary64 w h (subst (λ (t : Bool). T (not t)) (sym m) tt))
+
+-- the sums that make up the answer fit, since the answer does
+module _ (b : ℕ) where
+  pub special_fits : b % 2 ^ 31 / 2 ^ 23 ≡ 255 → sign_of b + special_of (b % 2 ^ 23) < 2 ^ 64
+  special_fits e = rw (← widen_special b e) (widen_fits b)
+
+  pub subnormal_fits : b % 2 ^ 31 / 2 ^ 23 ≡ 0 → sign_of b + finite_of (b % 2 ^ 23) 0 < 2 ^ 64
+  subnormal_fits e = rw (← widen_subnormal b e) (widen_fits b)
+
+  pub normal_fits : (x : ℕ) → b % 2 ^ 31 / 2 ^ 23 ≡ x → (x ≡ 0 → ⊥) → (x ≡ 255 → ⊥) → sign_of b + ((896 + x) * hid binary64 + b % 2 ^ 23 * 2 ^ 29) < 2 ^ 64
+  normal_fits x e h k = rw (← widen_normal b x e h k) (widen_fits b)

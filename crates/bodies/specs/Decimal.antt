@@ -1,15 +1,15 @@
 -- A decimal's body: the Ion document's "5: decimal", what splitting it answers by paper 02's A.1, and what the answers say of the bytes, in both directions.
 -- The theorems are proved in proofs/Splitting.antt.
 -- Assumes nothing.
-use Rattle.std.specs.Prelude.{ℕ, ◌+◌, ◌-◌, ◌^◌, ◌≤◌, ◌<◌, ◌≡◌, ◌⊎◌, Bool, true, false, List, [], ℤ, pos, neg_ℤ, length, get_or, eqb}
+use Rattle.std.specs.Prelude.{ℕ, ◌+◌, ◌-◌, ◌^◌, ◌≤◌, ◌<◌, ◌≡◌, ◌⊎◌, Bool, true, false, List, [], Result, ℤ, pos, neg_ℤ, length, get_or, eqb}
 use Rattle.numbers.specs.Format.{NumberAt, var_int_negative, var_int_magnitude}
 use Rattle.numbers.specs.Outcome.{Outcome, gives, refuses, pick, and_then, within}
 use Rattle.numbers.specs.Bytes.{part, Same}
 use Rattle.numbers.specs.Answers.{Signed, Fixed, var_int, int}
 use Rattle.numbers.specs.Meaning.{IntMeaning}
-use Rattle.numbers.specs.Read.{refusal_read}
+use Rattle.numbers.specs.Read.{outcome}
+use Rattle.numbers.specs.declared.refusal.Refusal.{Refusal}
 use Rattle.bodies.specs.declared.decimal.Decimal.{Decimal}
-use Rattle.bodies.specs.declared.decimal.Decimal.TheVariants.{Value, Refused}
 
 -- "Answer the exponent, negative zero as 0, and the coefficient as an Int's answer": the exponent's sign and magnitude, and the coefficient.
 pub record Split : Type 0 where
@@ -47,11 +47,17 @@ rest_in s (refuses number position) = []
 unfoldable pub decimal_rest : List ℕ → ℕ → ℕ → List ℕ
 decimal_rest s start end = rest_in s (decimal s start end)
 
--- what each case of the reading's enum says in these terms
-abbrev pub decimal_read : Decimal → Outcome Split
-decimal_read (Value m x n f r e) =
-    gives (record { exponent_negative = m; exponent = x; coefficient = record { negative = n; first = f; rest = r; end = e } })
-decimal_read (Refused e) = refusal_read e
+-- what each answer of the reading says in these terms
+abbrev pub split_read : Decimal → Split
+split_read d =
+    record {
+      exponent_negative = d.exponent_negative;
+      exponent = d.exponent;
+      coefficient = record { negative = d.coefficient.negative; first = d.coefficient.first; rest = d.coefficient.rest; end = d.coefficient.end };
+    }
+
+abbrev pub decimal_read : Result Decimal Refusal → Outcome Split
+decimal_read = outcome split_read
 
 -- the integer of a sign and a magnitude: both zeros are 0
 abbrev pub integer : Bool → ℕ → ℤ

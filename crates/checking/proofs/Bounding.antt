@@ -20,9 +20,9 @@ use Rattle.values.specs.Scalars.{is_container, body_rules}
 use Rattle.checking.specs.Counts.{markers, pads, type_place, place_of, none, counting}
 use Rattle.checking.specs.Reading.{Done, done, read_item}
 use Rattle.checking.specs.Check.{Parts, least_room, inside_of, value_check, on_answer, on_found, part_check}
-use Rattle.checking.specs.Private.Items.{Below, Placed}
+use Rattle.checking.specs.Private.Items.{Below, Placed, Fits}
 use Rattle.checking.specs.Private.Whole.{full}
-use Rattle.checking.proofs.Places.{Lies, found_behind}
+use Rattle.checking.proofs.Places.{Lies, found_behind, Typed}
 use Rattle.checking.proofs.Tallies.{counting_length, counting_at}
 
 at_most : (t : Bool) (n : ℕ) → pick t n 0 ≤ n
@@ -107,11 +107,16 @@ pub placed_in : (s : List ℕ) (v : Spans) → Placed s v → ValueIn v.descript
 placed_in s v p = record { low = omega arith; bodied = p.bodied; ended = p.ended; within = omega arith }
 
 -- behind the pads, at a value
-pub met_value : (s : List ℕ) (at n hi : ℕ) (v : Spans) (c c' : List ℕ) → ValueIn (at + n) hi v → hi ≤ length s → v.byte / 16 ≤ 13 → Below at c → c' ≡ counting pads n c → (at < v.end) × (v.end ≤ hi) × Placed s v × Below v.descriptor c'
+met_value : (s : List ℕ) (at n hi : ℕ) (v : Spans) (c c' : List ℕ) → ValueIn (at + n) hi v → hi ≤ length s → v.byte / 16 ≤ 13 → Below at c → c' ≡ counting pads n c → (at < v.end) × (v.end ≤ hi) × Placed s v × Below v.descriptor c'
 met_value s at n hi v c c' i m t b e =
     (omega (arith, i.low, i.bodied, i.ended), i.within, record { bodied = i.bodied; ended = i.ended; within = omega (arith, i.within); typed = t }, subst (Below v.descriptor) (sym e) (below_counting at v.descriptor pads n c b i.low))
 
--- and at a marker
-pub met_marker : (at n hi e : ℕ) (c c' c'' : List ℕ) → at + n < e → e ≤ hi → Below at c → c' ≡ counting pads n c → c'' ≡ counting markers 1 c' → (at < e) × (e ≤ hi) × Below e c''
-met_marker at n hi e c c' c'' l m b p q =
-    (omega arith, m, subst (Below e) (sym q) (below_counting (at + n) e markers 1 c' (subst (Below (at + n)) (sym p) (below_counting at (at + n) pads n c b (omega arith))) (omega arith)))
+-- what is met behind them fits, and a marker leaves room to be counted
+pub met_fits : (s : List ℕ) (at n hi : ℕ) (c c' : List ℕ) → hi ≤ length s → Below at c → c' ≡ counting pads n c → (o : Outcome Item) → ((x : Item) → o ≡ gives x → Lies (at + n) hi x) → ((x : Item) → o ≡ gives x → Typed x) → Fits s at hi c' o
+met_fits s at n hi c c' m b e (gives (finish p)) l t = tt
+met_fits s at n hi c c' m b e (gives (marker a x y z)) l t =
+    let q = l (marker a x y z) refl in
+    (omega (arith, q.0), q.1, subst (Below (z - 1)) (sym e) (below_counting at (z - 1) pads n c b (omega (arith, q.0))))
+met_fits s at n hi c c' m b e (gives (value v)) l t = met_value s at n hi v c c' (l (value v) refl) m (t (value v) refl) b e
+met_fits s at n hi c c' m b e (gives (field id a v)) l t = met_value s at n hi v c c' (l (field id a v) refl) m (t (field id a v) refl) b e
+met_fits s at n hi c c' m b e (refuses number position) l t = tt

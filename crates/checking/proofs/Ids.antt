@@ -55,3 +55,7 @@ ids_next s at end l =
 pub ids_none : (s : List ℕ) (at end : ℕ) → end ≤ at → read_ids s at end ≡ gives done
 unfolding read_ids ids_from
 ids_none s at end l = let e : end - at ≡ 0 = omega arith in rw e
+
+-- what the next ID's reading makes of the rest
+pub ids_by : (s : List ℕ) (at end : ℕ) → at < end → {o : Outcome Annotated} → o ≡ read_annotation s at end → and_then o (on_id (λ n. read_ids s n end)) ≡ read_ids s at end
+ids_by s at end l h = ap (λ (o : Outcome Annotated). and_then o (on_id (λ n. read_ids s n end))) h ∙ sym (ids_next s at end l)

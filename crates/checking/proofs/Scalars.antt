@@ -2,7 +2,7 @@
 -- Assumes nothing.
 use Prim.Native.Nat.{ℕ, ◌-◌, ◌≤◌}
 use native.Mathlib.Omega.{arith}
-use mathlib.Core.Path.{◌≡◌, refl, ◌∙◌, ap}
+use mathlib.Core.Path.{◌≡◌, ◌∙◌, ap}
 use mathlib.Core.Bool.{true, false, not}
 use mathlib.Core.List.{List}
 use lib.ListN.{length}
@@ -12,30 +12,10 @@ use Rattle.numbers.specs.Outcome.{Outcome, gives, refuses, pick, and_then}
 use Rattle.numbers.proofs.Outcomes.{by_case, within_part, refuse_gives}
 use Rattle.framing.specs.Spans.{Spans}
 use Rattle.stepping.specs.declared.cursor.Rules.{Rules}
-use Rattle.values.specs.Read.{scalar_read}
 use Rattle.values.specs.Scalars.{is_container, body_rules, Opened, opened, Scalar, scalar_in}
-use Rattle.numbers.specs.declared.refusal.Refusal.{Refusal}
-use Rattle.values.specs.declared.value.Scalar.{Scalar as ScalarEnum}
-use Rattle.values.specs.declared.value.Scalar.TheVariants.{Null, Bool, Int, Float, Decimal, Timestamp, Symbol}
-use Rattle.values.specs.declared.value.Scalar.TheVariants.{Text, Clob, Blob, Container, Refused}
 use Rattle.checking.specs.Counts.{place_of, counting}
 use Rattle.checking.specs.Reading.{done, read_body, read_ids, read_content, read_item}
 use Rattle.checking.specs.Check.{Parts, least_room, value_check}
-
--- a scalar that is neither a decimal nor a timestamp nor a refusal: nothing is left to be read
-pub plain_read : (s : List ℕ) (descriptor : ℕ) (x : ScalarEnum) → ((a b : ℕ) → x ≡ Decimal a b → ⊥) → ((a b : ℕ) → x ≡ Timestamp a b → ⊥) → ((e : Refusal) → x ≡ Refused e → ⊥) → gives done ≡ and_then (scalar_read x) (read_body s descriptor)
-plain_read s d (Null t) p q r = refl
-plain_read s d (Bool b) p q r = refl
-plain_read s d (Int n a b) p q r = refl
-plain_read s d (Float w) p q r = refl
-plain_read s d (Decimal a b) p q r = absurd (p a b refl)
-plain_read s d (Timestamp a b) p q r = absurd (q a b refl)
-plain_read s d (Symbol i) p q r = refl
-plain_read s d (Text a b) p q r = refl
-plain_read s d (Clob a b) p q r = refl
-plain_read s d (Blob a b) p q r = refl
-plain_read s d Container p q r = refl
-plain_read s d (Refused e) p q r = absurd (r e refl)
 
 module _ (s : List ℕ) (v : Spans) where
   -- behind its IDs its scalar is read

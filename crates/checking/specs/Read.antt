@@ -1,22 +1,22 @@
--- What each case of an enum of this layer says in the papers' terms.
+-- What each answer of this layer says in the papers' terms.
 -- Assumes nothing.
-use Rattle.std.specs.Prelude.{ℕ, List}
+use Rattle.std.specs.Prelude.{List, ℕ, Result, Ok, Err}
 use Rattle.numbers.specs.Outcome.{Outcome, gives}
-use Rattle.numbers.specs.Read.{refusal_read}
+use Rattle.numbers.specs.Read.{refusal_read, outcome}
+use Rattle.numbers.specs.declared.refusal.Refusal.{Refusal}
+use Rattle.checking.specs.Counts.{none}
 use Rattle.checking.specs.Answers.{Answer}
 use Rattle.checking.specs.Reading.{Done, done}
-use Rattle.checking.specs.declared.check.Checked.{Checked}
-use Rattle.checking.specs.declared.item.Verdict.{Verdict}
-use Rattle.checking.specs.declared.item.Verdict.TheVariants.{Accepted, Refused}
+use Rattle.checking.specs.declared.counts.Counts.{Counts}
 
-abbrev pub done_read : Verdict → Outcome Done
-done_read Accepted = gives done
-done_read (Refused e) = refusal_read e
+abbrev pub done_read : Result (Unit {0}) Refusal → Outcome Done
+done_read = outcome (λ u. done)
 
 -- with the counts that it leaves
-abbrev pub verdict_read : Verdict → List ℕ → Outcome (List ℕ)
-verdict_read Accepted c = gives c
-verdict_read (Refused e) c = refusal_read e
+abbrev pub verdict_read : Result (Unit {0}) Refusal → List ℕ → Outcome (List ℕ)
+verdict_read r c = outcome (λ u. c) r
 
-abbrev pub checked_read : Checked → Answer
-checked_read r = record { outcome = verdict_read r.verdict r.counts; counts = r.counts }
+-- "counts zero on a refusal"
+abbrev pub checked_read : Result Counts Refusal → Answer
+checked_read (Ok c) = record { outcome = gives c.places; counts = c.places }
+checked_read (Err e) = record { outcome = refusal_read e; counts = none }

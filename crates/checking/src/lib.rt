@@ -2,4 +2,5 @@
 #![tactic(auto)]
 
 pub mod check;
+pub mod counts;
 pub mod item;

@@ -24,7 +24,7 @@ use Rattle.counting.specs.Counted.{Counted, unbegun, unread, counted}
 use Rattle.counting.specs.Bounded.{Bounded, reached, more, behind_pads, pad_behind, pad_next, stops_among, bounded_in, bounded}
 use Rattle.counting.proofs.PadTiles.{pad_named}
 use Rattle.counting.proofs.Finding.{found_end, found_pad, found_stop}
-use Rattle.counting.proofs.Counting.{adding, adding_none, adding_one, counted_unranged, counted_outside, counted_end, counted_pad, counted_stop, behind_begun, behind_ended}
+use Rattle.counting.proofs.Counting.{adding, adding_none, adding_added, counted_unranged, counted_outside, counted_end, counted_pad, counted_stop, behind_begun, behind_ended}
 
 -- n pads more
 abbrev pub add_pads : ℕ → Bounded → Bounded
@@ -35,9 +35,9 @@ pub add_none : (r : Bounded) → add_pads 0 r ≡ r
 add_none (reached c) = ap reached (adding_none c)
 add_none (more m p) = let e : 0 + m ≡ m = omega arith in rw e
 
-pub add_one_more : (n : ℕ) (r : Bounded) → add_pads (n + 1) r ≡ add_pads n (add_pads 1 r)
-add_one_more n (reached c) = ap reached (adding_one n c)
-add_one_more n (more m p) = let e : n + 1 + m ≡ n + (1 + m) = omega arith in rw e
+pub add_added : {m : ℕ} (n k : ℕ) (r : Bounded) → n + k ≡ m → add_pads n (add_pads k r) ≡ add_pads m r
+add_added n k (reached c) e = ap reached (adding_added n k c e)
+add_added {m} n k (more l p) e = let q : n + (k + l) ≡ m + l = omega arith in rw q
 
 add_picked : (t : Bool) (n : ℕ) (x y : Bounded) → add_pads n (pick t x y) ≡ pick t (add_pads n x) (add_pads n y)
 add_picked true n x y = refl

@@ -29,10 +29,10 @@ adding_none c =
     let q : 0 + c.names ≡ c.names = omega arith in
     rw (p, q)
 
-pub adding_one : (n : ℕ) (c : Counted) → adding (n + 1) c ≡ adding n (adding 1 c)
-adding_one n c =
-    let p : n + 1 + c.pads ≡ n + (1 + c.pads) = omega arith in
-    let q : n + 1 + c.names ≡ n + (1 + c.names) = omega arith in
+pub adding_added : {m : ℕ} (n k : ℕ) (c : Counted) → n + k ≡ m → adding n (adding k c) ≡ adding m c
+adding_added {m} n k c e =
+    let p : n + (k + c.pads) ≡ m + c.pads = omega arith in
+    let q : n + (k + c.names) ≡ m + c.names = omega arith in
     rw (p, q)
 
 -- the counts of a step in a part

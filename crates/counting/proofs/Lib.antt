@@ -8,5 +8,6 @@ pub mod Repeating
 pub mod BoundedTiling
 pub mod Looking
 pub mod MoreMeant
+pub mod Behind
 pub mod Meanings
 pub mod Examples

@@ -1,14 +1,15 @@
 -- Kind 4, by the bytes, in both directions: as many pads of the document as may be passed lead to its position, and behind that comes a pad's descriptor.
 -- Assumes nothing.
-use Prim.Native.Nat.{ℕ, zero, suc, ◌+◌, ◌≤◌, ◌<◌}
+use Prim.Native.Nat.{ℕ, ◌+◌, ◌≤◌, ◌<◌}
 use native.Mathlib.Omega.{arith}
 use borrow.Author.Tests.{ltb-true, ne_eqb}
 use mathlib.Core.Path.{◌≡◌, refl, ◌∙◌, sym, ap, subst}
 use mathlib.Core.Bool.{Bool, true, true≢false}
 use mathlib.Core.Logic.{◌⊎◌, inl, inr}
-use mathlib.Core.List.{List, [], ◌∷◌}
+use mathlib.Core.List.{List}
 use lib.ListN.{length, get_or, take}
 use lib.Dec.{ltb, eqb}
+use Rattle.std.proofs.lemmas.List.{length-take-le}
 use Rattle.numbers.specs.Outcome.{Outcome, gives, refuses}
 use Rattle.numbers.specs.Answers.{Unsigned, unsigned, var_uint}
 use Rattle.numbers.proofs.Outcomes.{by_case, by_test, inside, inside_end, then_gives, refuse_gives}
@@ -101,11 +102,6 @@ module _ (rules : Rules) (s : List ℕ) (hi p : ℕ) where
 no_more : {n p : ℕ} {a : Counted} → reached a ≡ more n p → ⊥
 no_more e = let z : ◌≡◌ {A = ℕ} 0 1 = cc in omega arith
 
-take_length : (n : ℕ) (ps : List Pad) → n ≤ length ps → length (take n ps) ≡ n
-take_length zero ps h = refl
-take_length (suc n) [] h = absurd (omega arith)
-take_length (suc n) (p ∷ ps) h = ap suc (take_length n ps (omega arith))
-
 pub more-sound : MoreSound
 more-sound limit most rules s c =
     by_answer (λ (r : Bounded). (n p : ℕ) → r ≡ more n p → (n ≡ most) × ((ps : List Pad) × (length ps ≡ most) × Skips rules s c.end c.at ps p × PadComes rules s c.end p)) limit most rules s c
@@ -117,7 +113,7 @@ more-sound limit most rules s c =
       i,
       (
         take most (found limit rules s c).pads,
-        take_length most (found limit rules s c).pads h,
+        length-take-le most (found limit rules s c).pads h,
         subst (Skips rules s c.end c.at (take most (found limit rules s c).pads)) q w,
         subst (PadComes rules s c.end) q (comes rules s c.end (behind_pads most c.at (found limit rules s c).pads) (inside_end s c.at c.end o) b),
       ),

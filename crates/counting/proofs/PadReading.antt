@@ -1,20 +1,13 @@
--- The pad that a pad's descriptor begins: its length is the descriptor's own, or that of a VarUInt behind it.
+-- A pad's descriptor: it is below 15.
 -- Assumes nothing.
-use Prim.Native.Nat.{ℕ, ◌+◌, ◌/◌, ◌%◌, ◌≤◌, ◌<◌}
+use Prim.Native.Nat.{ℕ, ◌/◌, ◌%◌, ◌<◌}
 use native.Mathlib.Omega.{arith}
-use borrow.Author.Tests.{eqb-true, eqb-false, ne_eqb}
-use mathlib.Core.Path.{◌≡◌, ◌∙◌}
+use borrow.Author.Tests.{eqb-true, eqb-false, ltb-true, ltb-false}
+use mathlib.Core.Path.{◌≡◌, ◌∙◌, sym}
 use mathlib.Core.Bool.{true}
-use mathlib.Core.List.{List}
-use lib.ListN.{length, get_or}
-use lib.Dec.{eqb}
-use Rattle.numbers.specs.Outcome.{and_then}
-use Rattle.numbers.specs.Answers.{var_uint}
-use Rattle.numbers.specs.Descriptor.{descriptor_of}
+use lib.Dec.{eqb, ltb}
 use Rattle.numbers.proofs.Outcomes.{by_case}
-use Rattle.framing.specs.Answers.{sized_by, length_at, padded, pad_at, pad_or_none, read_pad}
-use Rattle.framing.proofs.Completeness.{peeked_here}
-use Rattle.framing.proofs.Nibbles.{pad_kind, is-pad}
+use Rattle.framing.proofs.Nibbles.{pad_kind, is-pad, no_pad_byte}
 use Rattle.counting.specs.Pads.{begins_pad}
 
 -- a pad's descriptor is below 15
@@ -30,21 +23,10 @@ pub below_pad : (b : ℕ) → b < 15 → begins_pad b ≡ true
 unfolding begins_pad
 below_pad b h = is-pad (b / 16) (b % 16) (omega arith) (omega arith)
 
-module _ (s : List ℕ) (at end : ℕ) (l : at < end) (m : end ≤ length s) (b : begins_pad (get_or s at 0) ≡ true) where
-  -- its length code is the byte
-  code_is : get_or s at 0 % 16 ≡ get_or s at 0
-  code_is = omega (arith, pad_below (get_or s at 0) b)
-
-  by_length : read_pad s at end ≡ and_then (length_at s (at + 1) end (get_or s at 0)) (padded end)
-  unfolding read_pad pad_or_none pad_at descriptor_of begins_pad
-  by_length = rw (peeked_here s at end l m, b, code_is)
-
-  pub pad_short : (get_or s at 0 ≡ 14 → ⊥) → read_pad s at end ≡ padded end (record { body = at + 1; size = get_or s at 0 })
-  unfolding length_at
-  pad_short n =
-      let k : get_or s at 0 ≡ 15 → ⊥ = λ e. omega (arith, pad_below (get_or s at 0) b) in
-      by_length ∙ rw (ne_eqb (get_or s at 0) 15 k, ne_eqb (get_or s at 0) 14 n)
-
-  pub pad_long : get_or s at 0 ≡ 14 → read_pad s at end ≡ and_then (and_then (var_uint s (at + 1) end) sized_by) (padded end)
-  unfolding length_at
-  pad_long e = by_length ∙ rw e
+-- so the test for one is a compare
+pub begins : (b : ℕ) → ltb b 15 ≡ begins_pad b
+unfolding begins_pad
+begins b =
+    by_case (ltb b 15)
+    (λ t. t ∙ sym (below_pad b (ltb-true b 15 t)))
+    (λ t. rw (t, no_pad_byte b (ltb-false b 15 t)))

@@ -15,27 +15,17 @@ use Rattle.stepping.specs.Private.Tiles.{handed}
 use Rattle.stepping.specs.declared.cursor.Rules.{Rules}
 use Rattle.stepping.proofs.Places.{pad_ends}
 use Rattle.stepping.proofs.PadSkipping.{Skipping, at-end, at_pad, at_item, at_refusal, of_skipping}
-use Rattle.counting.specs.Counted.{Counted, counted}
-use Rattle.counting.specs.Bounded.{Bounded, reached, more, behind_pads, pad_next, bounded_in}
+use Rattle.counting.specs.Counted.{counted}
+use Rattle.counting.specs.Bounded.{reached, more, behind_pads, pad_next, bounded_in}
 use Rattle.counting.specs.BoundedRuns.{pads_met}
 use Rattle.counting.proofs.Finding.{found_end, found_pad, found_stop}
-use Rattle.counting.proofs.Counting.{adding, adding_none, counted_pad, counted_end, counted_stop}
-use Rattle.counting.proofs.Bounding.{add_pads, add_none, next_end, next_pad, bound_pad, bound_more, bound_stop, bound_end}
+use Rattle.counting.proofs.Counting.{adding, adding_none, adding_added, counted_pad, counted_end, counted_stop}
+use Rattle.counting.proofs.Bounding.{add_pads, add_none, add_added, next_end, next_pad, bound_pad, bound_more, bound_stop, bound_end}
 
 -- n pads lead from one place to another
 pub data Passes (limit : ℕ) (rules : Rules) (s : List ℕ) (hi : ℕ) : ℕ → ℕ → ℕ → Type 0 where
   here : {at : ℕ} → Passes limit rules s hi 0 at at
   past : {n at b e z : ℕ} → at < hi → tile_at limit rules s at hi ≡ gives (skip b e) → Passes limit rules s hi n e z → Passes limit rules s hi (suc n) at z
-
-adding_suc : (n : ℕ) (c : Counted) → adding 1 (adding n c) ≡ adding (suc n) c
-adding_suc n c =
-    let p : 1 + (n + c.pads) ≡ suc n + c.pads = omega arith in
-    let q : 1 + (n + c.names) ≡ suc n + c.names = omega arith in
-    rw (p, q)
-
-add_suc : (n : ℕ) (r : Bounded) → add_pads 1 (add_pads n r) ≡ add_pads (suc n) r
-add_suc n (reached c) = ap reached (adding_suc n c)
-add_suc n (more m p) = let e : 1 + (n + m) ≡ suc n + m = omega arith in rw e
 
 -- a count of one or none
 one-if : (t : Bool) → t ≡ false → pick {A = ℕ} t 1 0 ≡ 0
@@ -74,7 +64,7 @@ module _ (limit : ℕ) (rules : Rules) (s : List ℕ) (hi : ℕ) where
     pub passes_counted : {n at z : ℕ} → Passes limit rules s hi n at z → counted limit rules s (cursor at hi) ≡ adding n (counted limit rules s (cursor z hi))
     passes_counted (here {at}) = sym (adding_none (counted limit rules s (cursor at hi)))
     passes_counted {z = z} (past {n} {at} l t d) =
-        counted_pad limit rules s g at hi l m t ∙ ap (adding 1) (passes_counted d) ∙ adding_suc n (counted limit rules s (cursor z hi))
+        counted_pad limit rules s g at hi l m t ∙ ap (adding 1) (passes_counted d) ∙ adding_added 1 n (counted limit rules s (cursor z hi)) (omega arith)
 
     pub passes_bounded : {n at z : ℕ} (k : ℕ) → Passes limit rules s hi n at z → bounded_in limit (n + k) rules s (cursor at hi) ≡ add_pads n (bounded_in limit k rules s (cursor z hi))
     passes_bounded k (here {at}) =
@@ -85,7 +75,7 @@ module _ (limit : ℕ) (rules : Rules) (s : List ℕ) (hi : ℕ) where
         ap (λ (j : ℕ). bounded_in limit j rules s (cursor at hi)) e
         ∙ bound_pad limit rules s g at hi l m (n + k) t
         ∙ ap (add_pads 1) (passes_bounded k d)
-        ∙ add_suc n (bounded_in limit k rules s (cursor z hi))
+        ∙ add_added 1 n (bounded_in limit k rules s (cursor z hi)) (omega arith)
 
     -- ---- the pads' descriptors that a step meets
 

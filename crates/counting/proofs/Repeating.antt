@@ -20,15 +20,9 @@ use Rattle.counting.specs.Bounded.{reached, behind_pads, pad_next, bounded_in, b
 use Rattle.counting.specs.BoundedRuns.{Repeats, none, again, pads_met, repetitions, Reaches}
 use Rattle.counting.specs.Theorems.{Repeating}
 use Rattle.counting.proofs.Finding.{found_unread}
-use Rattle.counting.proofs.Counting.{adding, adding_none}
+use Rattle.counting.proofs.Counting.{adding, adding_none, adding_added}
 use Rattle.counting.proofs.Bounding.{bounded-in, bounded_unread, is_read}
 use Rattle.counting.proofs.Passing.{Passes, pads_pass, passes_order, passes_counted, passes_met, at_most_one, met_most, met_few, unmet, met}
-
-adding_more : (n k : ℕ) (c : Counted) → adding n (adding k c) ≡ adding (n + k) c
-adding_more n k c =
-    let p : n + (k + c.pads) ≡ n + k + c.pads = omega arith in
-    let q : n + (k + c.names) ≡ n + k + c.names = omega arith in
-    rw (p, q)
 
 -- with a largest number of the part's length it is the step
 pub unbounded : (limit : ℕ) (rules : Rules) (s : List ℕ) (hi k at : ℕ) → (k ≡ 0 → ⊥) → hi - at ≤ k → bounded limit k rules s (cursor at hi) ≡ reached (counted limit rules s (cursor at hi))
@@ -83,7 +77,7 @@ module _ (limit most : ℕ) (some : 0 < most) (rules : Rules) (s : List ℕ) (hi
             counts =
                 passes_counted limit rules s hi g m d
                 ∙ ap (adding most) r.counts
-                ∙ adding_more most (n * most) (counted limit rules s (cursor r.last hi))
+                ∙ adding_added most (n * most) (counted limit rules s (cursor r.last hi)) refl
                 ∙ ap (λ (k : ℕ). adding k (counted limit rules s (cursor r.last hi))) q;
           }
 

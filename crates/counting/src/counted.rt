@@ -1,27 +1,27 @@
 // A step that counts the pads that it passes and the names that it begins to read, and comes back behind as many pads as it may pass.
 ghost use Rattle.std.specs.Prelude.{◌≡◌};
-ghost use Rattle.numbers.specs.Read.{refusal_read};
+ghost use Rattle.numbers.specs.Refusals.{number_of};
+ghost use Rattle.counting.specs.Pads.{begins_pad};
 ghost use Rattle.counting.specs.Counted.{unbegun, counted, ids_begun};
 ghost use Rattle.counting.specs.Bounded.{reached, bounded, bounded_after, bounded_step_of};
 ghost use Rattle.counting.specs.Read.{counted_read, bounded_read, bounded_step_read};
 
-use crate::pads::{begins_pad, read_pad};
-use framing::encoded_value::NopPad;
+use framing::binary_buffer::read_nop_pad;
 use framing::limits::out_of_range;
 use numbers::binary_buffer::outside;
-use numbers::refusal::{LIMIT_OUT_OF_RANGE, NO_PADS_ALLOWED, OUTSIDE, Refusal};
-use stepping::cursor::{Cursor, Item, Named, Rules, after_item, item_from, read_name};
+use numbers::refusal::{Reason, Refusal};
+use stepping::cursor::{Cursor, Item, Rules, after_item, item_from, read_name};
 
 // What a step answers, how many pads it passed, and how many names it began to read: in a struct's body these are field IDs.
-#[derive(Clone, Copy)]
+#[derive(Clone, Copy, Debug, PartialEq, Eq)]
 pub struct Counted {
-    pub item: Item,
+    pub item: Result<Item, Refusal>,
     pub pads: usize,
     pub names: usize,
 }
 
 // What a bounded step answers.
-#[derive(Clone, Copy)]
+#[derive(Clone, Copy, Debug, PartialEq, Eq)]
 pub enum Bounded {
     // The answer of the step, which met its bound nowhere.
     Reached(Counted),
@@ -30,33 +30,38 @@ pub enum Bounded {
 }
 
 // An answer, and the cursor for the next step: the one given where the step is refused.
-#[derive(Clone, Copy)]
+#[derive(Clone, Copy, Debug, PartialEq, Eq)]
 pub struct BoundedStep {
     pub answer: Bounded,
     pub next: Cursor,
 }
 
 // More pads than a part can have.
-const NO_BOUND: usize = 0xFFFF_FFFF_FFFF_FFFF;
+const NO_BOUND: usize = usize::MAX;
 
-// A step that is refused behind this many pads, with this many names begun.
-fn refused(refusal: Refusal, pads: usize, names: usize) -> Bounded
-    ensures { bounded_read result ≡ reached (record { answer = refusal_read refusal; pads = pads; names = names }) }
+// The first byte that begins no pad.
+const FIRST_VALUE: u8 = 0x0F;
+
+// Whether a byte is a pad's descriptor.
+#[tactic(auto, using(crate::proofs::PadReading::begins))]
+fn begins_pad(byte: u8) -> bool
+    ensures { result ≡ begins_pad byte }
 {
-    let item = Item::Refused(refusal);
-    let counted = Counted { item, pads, names };
-    Bounded::Reached(counted)
+    byte < FIRST_VALUE
 }
 
 // A step that is refused before anything is read.
-fn refused_at_once(number: u64) -> Bounded
-    ensures { bounded_read result ≡ reached (unbegun number) }
+fn refused_at_once(reason: Reason) -> Bounded
+    ensures { bounded_read result ≡ reached (unbegun (number_of reason)) }
 {
-    let refusal = Refusal {
-        number,
-        position: 0,
-    };
-    refused(refusal, 0, 0)
+    Bounded::Reached(Counted {
+        item: Err(Refusal {
+            reason,
+            position: 0,
+        }),
+        pads: 0,
+        names: 0,
+    })
 }
 
 // The cursor that an answer leaves.
@@ -64,11 +69,8 @@ fn after_bounded(cursor: Cursor, answer: Bounded) -> Cursor
     ensures { result ≡ bounded_after cursor (bounded_read answer) }
 {
     match answer {
-        Bounded::Reached(counted) => {
-            let item = counted.item;
-            after_item(cursor, item)
-        }
-        Bounded::More { pads: _, at } => Cursor {
+        Bounded::Reached(counted) => after_item(cursor, counted.item),
+        Bounded::More { at, .. } => Cursor {
             at,
             end: cursor.end,
         },
@@ -76,6 +78,7 @@ fn after_bounded(cursor: Cursor, answer: Bounded) -> Cursor
 }
 
 // The step at `at` in the part that ends at `end`, with its counts, past `most` pads at most: a name is counted where it is read, and a pad where it is passed.
+#[tactic(auto, using(crate::proofs::Behind::bounded_laws))]
 pub fn bounded_at(
     rules: Rules,
     s: &[u8],
@@ -87,44 +90,56 @@ pub fn bounded_at(
     ensures { bounded_read result ≡ bounded limit most rules s.now (record { at = at; end = end }) }
 {
     if out_of_range(limit) {
-        return refused_at_once(LIMIT_OUT_OF_RANGE);
+        return refused_at_once(Reason::LimitOutOfRange);
     }
     if outside(s, at, end) {
-        return refused_at_once(OUTSIDE);
+        return refused_at_once(Reason::Outside);
     }
     if most == 0 {
-        return refused_at_once(NO_PADS_ALLOWED);
+        return refused_at_once(Reason::NoPadsAllowed);
     }
     let mut from = at;
     let mut pads = 0;
     let mut names = 0;
     while from < end {
         names += 1;
-        match read_name(rules, s, from, end) {
-            Named::At { id, next } => {
-                if !begins_pad(s[next]) {
-                    let item = item_from(rules, s, from, id, next, end, limit);
-                    return Bounded::Reached(Counted { item, pads, names });
-                }
-                if pads == most {
-                    return Bounded::More { pads, at: from };
-                }
-                match read_pad(s, next, end) {
-                    NopPad::Pad { body: _, end: past } => {
-                        pads += 1;
-                        from = past;
-                    }
-                    NopPad::Refused(refusal) => return refused(refusal, pads, names),
-                }
+        let name = match read_name(rules, s, from, end) {
+            Ok(name) => name,
+            Err(refusal) => {
+                return Bounded::Reached(Counted {
+                    item: Err(refusal),
+                    pads,
+                    names,
+                });
             }
-            Named::Refused(refusal) => return refused(refusal, pads, names),
+        };
+        if !begins_pad(s[name.next]) {
+            let item = item_from(rules, s, from, name.id, name.next, end, limit);
+            return Bounded::Reached(Counted { item, pads, names });
+        }
+        if pads == most {
+            return Bounded::More { pads, at: from };
+        }
+        match read_nop_pad(s, name.next, end) {
+            Ok(pad) => {
+                pads += 1;
+                from = pad.end;
+            }
+            Err(refusal) => {
+                return Bounded::Reached(Counted {
+                    item: Err(refusal),
+                    pads,
+                    names,
+                });
+            }
         }
     }
-    let item = Item::End { position: end };
+    let item = Ok(Item::End { position: end });
     Bounded::Reached(Counted { item, pads, names })
 }
 
 // A bounded step: its answer, and the cursor that it leaves.
+#[tactic(auto, unfolding(crate::specs::Bounded::bounded_step_of))]
 pub fn next_bounded(
     rules: Rules,
     s: &[u8],
@@ -140,16 +155,13 @@ pub fn next_bounded(
 }
 
 // The step at `at` with its counts, past all pads: no part has more of them than `NO_BOUND`.
+#[tactic(auto, using(crate::proofs::Repeating::unbounded))]
 pub fn count_at(rules: Rules, s: &[u8], at: usize, end: usize, limit: usize) -> Counted
     ensures { counted_read result ≡ counted limit rules s.now (record { at = at; end = end }) }
 {
     match bounded_at(rules, s, at, end, NO_BOUND, limit) {
         Bounded::Reached(counted) => counted,
-        Bounded::More { pads, at: position } => Counted {
-            item: Item::End { position },
-            pads,
-            names: pads,
-        },
+        Bounded::More { .. } => unreachable!(),
     }
 }
 

@@ -1,14 +1,14 @@
 -- VarUInts and UInts as they are written: each digit is the number's, so that they read back, and the fewest bytes are those whose power of 128 exceeds it.
 -- Assumes nothing.
-use Prim.Native.Nat.{ℕ, zero, suc, ◌+◌, ◌-◌, ◌*◌, ◌/◌, ◌%◌, ◌^◌, ◌≤◌, ◌<◌}
+use Prim.Native.Nat.{ℕ, zero, suc, max, ◌+◌, ◌-◌, ◌*◌, ◌/◌, ◌%◌, ◌^◌, ◌≤◌, ◌<◌}
 use native.Mathlib.Omega.{arith}
-use native.Mathlib.Nat.{pow-zero, pow-suc, pow-le-pow_right, one-le-pow, lt_of_lt_of_le, mul_assoc, mul_comm, add-mul, mod-lt, mod-mod, mod-eq_of_lt, div-add-mod', mul-add-mod_self_right, lt-div-mul-add, div-eq_of_lt, div-div-eq-div-mul}
+use native.Mathlib.Nat.{div-one, pow-zero, pow-suc, pow-le-pow_right, one-le-pow, lt_of_lt_of_le, mul_assoc, mul_comm, add-mul, mod-lt, mod-mod, mod-eq_of_lt, div-add-mod', mul-add-mod_self_right, div-div-eq-div-mul}
 use native.Mathlib.Numerals.{add-one}
 use mathlib.Core.Path.{◌≡◌, refl, ◌∙◌, sym, ap, subst}
-use mathlib.Core.List.{List, map}
+use mathlib.Core.List.{List, [], ◌∷◌, map}
 use lib.ListN.{length, length-map}
 use lib.Dec.{ltb}
-use borrow.Author.Tests.{ltb-true, ltb-false, lt-ltb, le-ltb}
+use borrow.Author.Tests.{ltb-true, ltb-false}
 use Rattle.numbers.specs.Format.{VarBytes, last, more, of_digits, uint_of, low_seven, var_uint_of}
 use Rattle.numbers.specs.Answers.{most_bytes}
 use Rattle.numbers.proofs.Outcomes.{by_test, by_case}
@@ -57,6 +57,16 @@ in_worth (suc k) n =
     ∙ ap (λ (x : ℕ). n / p % 128 * p + x) (in_worth k n)
     ∙ sym (digit_left 128 n p (omega arith) (positive 128 (suc k) (omega arith)))
     ∙ ap (λ (x : ℕ). n % x) (sym (pow-suc 128 (suc k)))
+
+-- the first of so many bytes, and the last one
+pub in_first : (k n : ℕ) → 0 < k → var_uint_in k n ≡ n / 128 ^ k % 128 ∷ var_uint_in (k - 1) n
+unfolding var_uint_in
+in_first zero n h = absurd (omega arith)
+in_first (suc k) n h = let e : suc k - 1 ≡ k = omega arith in rw e
+
+pub in_last : (n : ℕ) → var_uint_in 0 n ≡ (128 + n % 128) ∷ []
+unfolding var_uint_in
+in_last n = refl
 
 pub var_uint_written : VarUIntWritten
 var_uint_written k n = record { bytes = in_bytes k n; size = in_size k n; worth = λ h. in_worth k n ∙ mod-eq_of_lt h }
@@ -134,32 +144,29 @@ pub bytes_size : (n : ℕ) → length (var_uint_bytes n) ≡ var_uint_size n
 unfolding var_uint_bytes
 bytes_size n = in_size (var_uint_size n - 1) n ∙ omega (arith, size_low n)
 
--- by a loop: a number that k bytes do not tell asks for more, and one that they tell for no more
-pub size_more : (n k : ℕ) → k ≤ 9 → 128 ^ k ≤ n → fewest (10 - k) k (λ _. n) ≡ fewest (10 - (k + 1)) (k + 1) (λ _. n)
-unfolding fewest
-size_more n k h l =
-    let e : 10 - k ≡ suc (10 - (k + 1)) = omega arith in
-    rw (e, le-ltb n (128 ^ k) l, add-one k)
+-- by the greatest power of 128 that a number is at least
+pub size_by_power : (n k : ℕ) → 128 ^ k ≤ max n 1 → max n 1 < 128 * 128 ^ k → n < 2 ^ 64 → var_uint_size n ≡ k + 1
+size_by_power n k l h f =
+    let e : 128 ^ (k + 1) ≡ 128 * 128 ^ k = rw (add-one k, pow-suc 128 k) (mul_comm (128 ^ k) 128) in
+    let high : var_uint_size n ≤ k + 1 = size_least n (k + 1) (omega arith) (omega arith) in
+    by_case (ltb (var_uint_size n) (k + 1))
+    (λ t.
+    let s : var_uint_size n < k + 1 = ltb-true (var_uint_size n) (k + 1) t in
+    let few : var_uint_size n ≤ 9 =
+    by_case (ltb 9 k)
+    (λ u.
+    let r : 128 ^ 10 ≤ 128 ^ k = pow-le-pow_right {n = 128} (omega arith) {i = 10} {j = k} (omega (arith, ltb-true 9 k u)) in
+    absurd (omega arith))
+    (λ u. omega (arith, ltb-false 9 k u)) in
+    let p : 128 ^ 1 ≤ 128 ^ var_uint_size n = pow-le-pow_right {n = 128} (omega arith) {i = 1} {j = var_uint_size n} (size_low n) in
+    let q : 128 ^ var_uint_size n ≤ 128 ^ k = pow-le-pow_right {n = 128} (omega arith) {i = var_uint_size n} {j = k} (omega arith) in
+    absurd (omega (arith, size_enough n few)))
+    (λ t. omega (arith, ltb-false (var_uint_size n) (k + 1) t))
 
-pub size_told : (n k : ℕ) → k ≤ 10 → n < 128 ^ k → fewest (10 - k) k (λ _. n) ≡ k
-unfolding fewest
-size_told n k h l =
-    by_case (ltb k 10)
-    (λ b.
-    let e : 10 - k ≡ suc (9 - k) = omega (arith, ltb-true k 10 b) in
-    rw (e, lt-ltb n (128 ^ k) l))
-    (λ b.
-    let e : 10 - k ≡ 0 = omega (arith, ltb-false k 10 b) in
-    rw e)
+-- no byte leaves all, and one more leaves less
+pub no_power : (n : ℕ) → n ≡ n / 128 ^ 0
+no_power n = sym (div-one n)
 
--- what a power leaves of a number
-pub below_power : (n p : ℕ) → 0 < p → n / p ≡ 0 → n < p
-below_power n p h e = let l : n < n / p * p + p = lt-div-mul-add h in omega (arith, subst (λ (q : ℕ). n < q * p + p) e l)
-
-pub from_power : (n p : ℕ) → (n / p ≡ 0 → ⊥) → p ≤ n
-from_power n p h = by_case (ltb n p) (λ b. absurd (h (div-eq_of_lt (ltb-true n p b)))) (λ b. ltb-false n p b)
-
--- one more byte leaves less
 pub next_power : (n k : ℕ) → n / 128 ^ k / 128 ≡ n / 128 ^ (k + 1)
 next_power n k = div-div-eq-div-mul n (128 ^ k) 128 ∙ ap (λ (p : ℕ). n / p) (sym (pow-suc 128 k) ∙ ap (λ (j : ℕ). 128 ^ j) (sym (add-one k)))
 

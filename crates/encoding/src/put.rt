@@ -1,5 +1,6 @@
-// Bytes that are put into a lent buffer from a position on. What does not fit into it is left out: callers see to it that all does.
-ghost use Rattle.std.specs.Prelude.{◌≡◌, ◌/◌, ◌%◌, ◌^◌, ◌≤◌, ◌<◌, set};
+// Bytes that are put into a lent buffer from a position on: there is no heap, so no `Vec` that grows. What does not fit into it is left out: callers see to it
+// that all does.
+ghost use Rattle.std.specs.Prelude.{◌≡◌, ◌/◌, ◌%◌, ◌^◌, set};
 ghost use Rattle.std.proofs.lemmas.List.Edits.{sets};
 ghost use Rattle.encoding.specs.Fields.{var_uint_in, var_uint_size, var_uint_bytes};
 ghost use Rattle.encoding.specs.Heads.{head_bytes, head_size};
@@ -7,51 +8,30 @@ ghost use Rattle.encoding.specs.Heads.{head_bytes, head_size};
 // The lengths from 14 on stand behind the descriptor.
 const LONG: usize = 14;
 
-fn narrow(x: usize) -> u8
-    requires { x < 256 }
-    ensures { result ≡ x }
-{
-    x as u8
-}
-
-fn wide(x: u8) -> usize
-    ensures { result ≡ x }
-{
-    x as usize
-}
-
 // How many bytes a VarUInt of `n` has at least.
+#[tactic(auto, using(crate::proofs::VarUInts::size_by_power))]
 pub fn var_uint_size(n: usize) -> usize
     ensures { result ≡ var_uint_size n }
 {
-    let mut size = 1;
-    let mut rest = n / 128;
-    while rest != 0 {
-        size += 1;
-        rest = rest / 128;
-    }
-    size
+    n.max(1).ilog(128) as usize + 1
 }
 
 // How many bytes the descriptor and the length field of `n` bytes have at least.
+#[tactic(auto, using(crate::proofs::VarUInts::size_high, crate::proofs::Heads::head_short, crate::proofs::Heads::head_long))]
 pub fn head_size(n: usize) -> usize
     ensures { result ≡ head_size n }
 {
-    if n < LONG {
-        return 1;
-    }
-    1 + var_uint_size(n)
+    if n < LONG { 1 } else { 1 + var_uint_size(n) }
 }
 
 // The seven bits of `n` that `k` bytes follow.
+#[tactic(auto, using(crate::proofs::VarUInts::next_power, crate::proofs::VarUInts::no_power))]
 fn digit(n: usize, k: usize) -> usize
     ensures { result ≡ n / 128 ^ k % 128 }
 {
     let mut rest = n;
-    let mut i = 0;
-    while i < k {
-        rest = rest / 128;
-        i += 1;
+    for _ in 0..k {
+        rest /= 128;
     }
     rest % 128
 }
@@ -65,16 +45,6 @@ pub fn put_byte(out: &mut [u8], at: usize, byte: u8)
     }
 }
 
-// How many of `n` bytes fit into `room`.
-fn fitting(n: usize, room: usize) -> usize
-    ensures { (result ≤ n) × (result ≤ room) × (result < n → result ≡ room) }
-{
-    if n < room {
-        return n;
-    }
-    room
-}
-
 // Puts all bytes of another slice.
 pub fn put_bytes(out: &mut [u8], at: usize, from: &[u8])
     ensures { out.new ≡ sets out.old at from.now }
@@ -82,11 +52,10 @@ pub fn put_bytes(out: &mut [u8], at: usize, from: &[u8])
     if out.len() <= at {
         return;
     }
-    let n = fitting(from.len(), out.len() - at);
-    let mut i = 0;
-    while i < n {
+    let n = from.len().min(out.len() - at);
+    // Byte by byte: by `copy_from_slice` the archive would ask its programs for `memmove`, where it asks for `memcpy` alone.
+    for i in 0..n {
         out[at + i] = from[i];
-        i += 1;
     }
 }
 
@@ -95,19 +64,18 @@ pub fn put_var_uint_in(out: &mut [u8], at: usize, k: usize, n: usize)
     ensures { out.new ≡ sets out.old at (var_uint_in k n) }
 {
     let mut to = at;
-    let mut left = k;
-    while 0 < left {
+    for left in (0..k).rev() {
         if out.len() <= to {
             return;
         }
-        out[to] = narrow(digit(n, left));
+        out[to] = digit(n, left + 1) as u8;
         to += 1;
-        left -= 1;
     }
-    put_byte(out, to, narrow(128 + n % 128));
+    put_byte(out, to, (128 + n % 128) as u8);
 }
 
 // Puts a VarUInt in the fewest bytes.
+#[tactic(auto, using(crate::proofs::VarUInts::size_low), unfolding(crate::specs::Fields::var_uint_bytes))]
 pub fn put_var_uint(out: &mut [u8], at: usize, n: usize)
     ensures { out.new ≡ sets out.old at (var_uint_bytes n) }
 {
@@ -118,14 +86,14 @@ pub fn put_var_uint(out: &mut [u8], at: usize, n: usize)
 pub fn put_head(out: &mut [u8], at: usize, byte: u8, n: usize)
     ensures { out.new ≡ sets out.old at (head_bytes (byte / 16) n) }
 {
-    let high = wide(byte) / 16 * 16;
+    let high = byte / 16 * 16;
     if n < LONG {
-        put_byte(out, at, narrow(high + n));
+        put_byte(out, at, high + n as u8);
         return;
     }
     if out.len() <= at {
         return;
     }
-    put_byte(out, at, narrow(high + LONG));
+    put_byte(out, at, high + LONG as u8);
     put_var_uint(out, at + 1, n);
 }

@@ -14,7 +14,7 @@ use Rattle.numbers.specs.Descriptor.{descriptor_of}
 use Rattle.numbers.specs.declared.type_descriptor.TypeDescriptor.{TypeDescriptor}
 use Rattle.numbers.proofs.Outcomes.{Each, given, each_refuse, each_pick, each_within, each_then}
 use Rattle.numbers.proofs.Meaning.{var_uint_bounded}
-use Rattle.framing.specs.Answers.{peeked_descriptor, Sized, length_at, length_tests, value_length, fitting, value_without_annotations, padded, pad_at, Wrapping, wrapper_tests, annotations_at, wrapper_at, inner_value, wrapped, unwrapped, annotated_value, value_at, bad_float, short_timestamp, empty_ordered, no_value, is_pad, is_wrapper, read_value, Frame, padding, valued, frame_at, read_frame}
+use Rattle.framing.specs.Answers.{peeked_descriptor, Sized, length_at, length_tests, value_length, fitting, value_without_annotations, padded, pad_at, wrapper_at, inner_value, wrapped, unwrapped, annotated_value, value_at, bad_float, short_timestamp, empty_ordered, no_value, is_pad, is_wrapper, read_value, Frame, padding, valued, frame_at, read_frame}
 use Rattle.framing.specs.Spans.{Spans, Padding}
 use Rattle.framing.proofs.WrapperTests.{WrapperAt, wrapper_tests_each}
 

@@ -3,7 +3,7 @@
 -- Assumes nothing.
 use Prim.Native.Nat.{ℕ, zero, suc, ◌+◌, ◌/◌, ◌%◌, ◌^◌, ◌<◌}
 use native.Mathlib.Omega.{arith}
-use borrow.Author.Tests.{eqb-true, eqb-false, not-true, lt-ltb, ltb-true, ne_eqb}
+use borrow.Author.Tests.{eqb-true, eqb-false, not-true, lt-ltb}
 use mathlib.Core.Path.{◌≡◌, refl, sym, subst}
 use mathlib.Core.Bool.{Bool, true, false, not, true≢false}
 use mathlib.Core.List.{List}
@@ -12,9 +12,9 @@ use Rattle.numbers.specs.Outcome.{gives, pick}
 use Rattle.numbers.specs.Descriptor.{kind_of}
 use Rattle.numbers.specs.declared.type_descriptor.TypeDescriptor.{TypeDescriptor}
 use Rattle.numbers.proofs.Outcomes.{by_test, by_case}
-use Rattle.numbers.proofs.Table.{first_test, second_test}
+use Rattle.framing.proofs.Table.{first_test, second_test}
 use Rattle.framing.specs.Answers.{no_value, length_at, value_code, bad_float, short_timestamp, empty_ordered, length_tests, value_length}
-use Rattle.framing.specs.Private.InlineLengths.{inline_length, has_inline_length, inline_codes, is_ordered, has_length_field}
+use Rattle.framing.specs.Private.InlineLengths.{inline_length, has_inline_length, inline_codes}
 
 -- ---- the table
 
@@ -97,30 +97,11 @@ inline_read s at end d h =
     rw
     (sized s (at + 1) end type code t.code_is, t.float, t.timestamp, no_order type code (inline_length type code) t.code_is)
 
--- ---- a VarUInt says the length
+-- above 15 there is none
+pub high_type : (type code : ℕ) → 15 < type → false ≡ has_inline_length type code
+unfolding has_inline_length kind_of
+high_type type code h = rw (lt-ltb 14 type (omega arith)) (by_case (ltb 15 code) (λ e. rw e) (λ e. rw e))
 
--- with length code 14, by type: a number has the bit of each type that reads one
-pub bit_length_field : (type : ℕ) → type < 16 → eqb (0x3FEC / 2 ^ type % 2) 1 ≡ has_length_field type 14
-unfolding has_length_field value_code bad_float
-bit_length_field type t =
-    same_is _ _ (holds_at 16 (λ x. same (eqb (0x3FEC / 2 ^ x % 2) 1) (has_length_field x 14)) tt type t)
-
--- and else in an ordered struct alone
-pub ordered_length_field : (type code : ℕ) → eqb code 14 ≡ false → is_ordered type code ≡ has_length_field type code
-unfolding is_ordered has_length_field value_code bad_float
-ordered_length_field type code n =
-    by_case (ltb type 2)
-    (λ l.
-    let o : eqb type 13 ≡ false = ne_eqb type 13 (omega (arith, ltb-true type 2 l)) in
-    rw (l, o))
-    (λ l.
-    rw l
-    (by_case (eqb type 13)
-    (λ o. rw (o, eqb-true type 13 o) (by_case (eqb code 1) (λ e. rw e) (λ e. rw (e, n))))
-    (λ o. rw (o, n))))
-
-pub high_length_field : (type code : ℕ) → 15 < type → has_length_field type code ≡ false
-unfolding has_length_field
-high_length_field type code h =
-    let l : ltb 13 type ≡ true = lt-ltb 13 type (omega arith) in
-    by_case (eqb (value_code type code) 14) (λ e. rw (e, l)) (λ e. rw e)
+pub high_code : (type code : ℕ) → 15 < code → false ≡ has_inline_length type code
+unfolding has_inline_length
+high_code type code h = rw (lt-ltb 15 code h)

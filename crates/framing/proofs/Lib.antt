@@ -7,5 +7,6 @@ pub mod Completeness
 pub mod Locality
 pub mod Refusing
 pub mod Location
+pub mod Table
 pub mod InlineLengths
 pub mod ShortValues

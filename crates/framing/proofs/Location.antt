@@ -1,31 +1,18 @@
 -- A value is where it stands, and then the value there: with a wrapper and without one.
 -- Assumes nothing.
-use Prim.Native.Nat.{ℕ, ◌-◌, ◌≤◌, ◌<◌}
+use Prim.Native.Nat.{ℕ, ◌-◌, ◌<◌}
 use native.Mathlib.Omega.{arith}
 use borrow.Author.Tests.{ne_eqb}
 use mathlib.Core.Path.{◌≡◌, refl, ◌∙◌, sym}
 use mathlib.Core.List.{List}
-use lib.ListN.{length, get_or}
+use lib.ListN.{get_or}
 use lib.Dec.{ltb}
 use Rattle.numbers.specs.Outcome.{gives, refuse_if, and_then}
 use Rattle.numbers.specs.declared.type_descriptor.TypeDescriptor.{TypeDescriptor}
-use Rattle.numbers.proofs.Outcomes.{by_case, refuse_same, refuse_first, Each, given, each_refuse, each_pick, each_then, then_same, then_then, then_like}
+use Rattle.numbers.proofs.Outcomes.{by_case, refuse_same, refuse_first, then_same, then_then, then_like}
 use Rattle.framing.specs.Answers.{peeked_descriptor, Sized, value_length, fitting, value_without_annotations, Wrapping, wrapper_at, inner_value, wrapped, unwrapped, annotated_value, value_at, is_pad, is_wrapper, no_value}
 use Rattle.framing.specs.Private.Located.{inner_tests, inner_at, location_in_wrapper, location_at, differs_from, fitted, located_value}
-use Rattle.framing.proofs.Bounds.{peeked_each, wrapper_each}
-
--- the value stands in the part
-pub location_each : (limit : ℕ) (s : List ℕ) (at end : ℕ) (d : TypeDescriptor) → at < end → end ≤ length s → Each (λ o. (o.value < end) × (end ≤ length s)) (location_at limit s at end d)
-unfolding location_at location_in_wrapper inner_at inner_tests
-location_each limit s at end d h k =
-    each_pick (is_wrapper d.kind)
-    (λ _.
-    each_then (wrapper_each limit s at end d h) (λ w _.
-    each_then (peeked_each s w.value end) (λ i b.
-    each_refuse (is_wrapper i.kind) 27 w.value (λ _.
-    each_refuse (is_pad i.kind) 28 w.value (λ _.
-    each_refuse (no_value i.kind) 22 w.value (λ _. given (b.before, b.inside)))))))
-    (λ _. each_refuse (no_value d.kind) 22 at (λ _. given (h, k)))
+use Rattle.framing.proofs.Bounds.{wrapper_each}
 
 -- a length without a wrapper, and with one
 fits_alone : (at end byte : ℕ) (l : Sized) → fitting at end byte l ≡ fitted at end at at 0 byte l

@@ -86,27 +86,6 @@ pad_byte b h =
     (λ _ _. record { wrapper = refl; value = refl })
     (λ t _. absurd (omega arith))
 
--- from 0F to DF a byte begins a value or a null, and from E0 on none
-pub value_byte : (b : ℕ) → 15 ≤ b → b < 224 → no_value (kind_of (b / 16) (b % 16)) ≡ false
-value_byte b h k =
-    by_kind (b / 16) (b % 16) (λ x. no_value x ≡ false)
-    (λ t. absurd (omega arith))
-    (λ t _. absurd (omega arith))
-    (λ t _. absurd (omega arith))
-    (λ _ _. refl)
-    (λ t n. let e : b % 16 ≡ 15 = omega arith in absurd (n e))
-    (λ _ _. refl)
-
-pub no_value_byte : (b : ℕ) → 224 ≤ b → no_value (kind_of (b / 16) (b % 16)) ≡ true
-no_value_byte b h =
-    by_kind (b / 16) (b % 16) (λ x. no_value x ≡ true)
-    (λ _. refl)
-    (λ _ _. refl)
-    (λ _ _. refl)
-    (λ t _. absurd (omega arith))
-    (λ t _. absurd (omega arith))
-    (λ _ t. absurd (omega arith))
-
 pub no_pad_byte : (b : ℕ) → 15 ≤ b → is_pad (kind_of (b / 16) (b % 16)) ≡ false
 no_pad_byte b h =
     by_kind (b / 16) (b % 16) (λ k. is_pad k ≡ false)

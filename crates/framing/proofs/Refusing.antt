@@ -10,7 +10,7 @@ use Rattle.numbers.specs.Outcome.{and_then}
 use Rattle.numbers.specs.declared.type_descriptor.TypeDescriptor.{TypeDescriptor}
 use Rattle.numbers.proofs.Outcomes.{Proper, gave, proper_refuse, proper_pick, proper_within, proper_then}
 use Rattle.numbers.proofs.Meaning.{var_uint_bounded, var_uint_proper}
-use Rattle.framing.specs.Answers.{peeked_descriptor, length_at, length_tests, value_length, fitting, value_without_annotations, padded, pad_at, wrapper_tests, annotations_at, wrapper_at, inner_value, wrapped, unwrapped, annotated_value, value_at, bad_float, short_timestamp, empty_ordered, no_value, is_pad, is_wrapper, frame_at, read_frame}
+use Rattle.framing.specs.Answers.{peeked_descriptor, length_at, length_tests, value_length, fitting, value_without_annotations, padded, pad_at, wrapper_at, inner_value, wrapped, unwrapped, annotated_value, value_at, bad_float, short_timestamp, empty_ordered, no_value, is_pad, is_wrapper, frame_at, read_frame}
 use Rattle.framing.proofs.WrapperTests.{wrapper_tests_proper}
 use Rattle.framing.proofs.Bounds.{peeked_each, length_each, value_length_each, pad_each, wrapper_each, inner_peeked_each, value_each}
 

@@ -84,9 +84,6 @@ module _ (limit : ℕ) (s : List ℕ) (at end : ℕ) {v : Spans} (e : short_valu
       let r = said at (read_value limit s at end) e in
       bare (values-sound limit s at end v r.gave).0 r.descriptor
 
-  pub short_read : read_value limit s at end ≡ gives v
-  short_read = (said at (read_value limit s at end) e).gave
-
   pub short_framed : read_frame limit s at end ≡ gives (valued v)
   short_framed = (values-complete limit s at end v (plain short_typed) (omega (arith, (said at (read_value limit s at end) e).near))).1
 

@@ -4,21 +4,19 @@ use Prim.Native.Nat.{ℕ, ◌+◌, ◌-◌, ◌≤◌, ◌<◌}
 use native.Mathlib.Omega.{arith}
 use native.Mathlib.Nat.{mod-lt}
 use borrow.Author.Tests.{ltb-true, ltb-false, eqb-true, eqb-false, eq-eqb, ne_eqb, not-false}
-use mathlib.Core.Path.{◌≡◌, refl, ◌∙◌, sym, ap, subst}
+use mathlib.Core.Path.{◌≡◌, refl, ◌∙◌, sym, subst}
 use mathlib.Core.Bool.{Bool, true, false, not}
 use mathlib.Core.Logic.{◌⊎◌, inl, inr}
 use mathlib.Core.List.{List}
 use lib.ListN.{length, get_or}
 use lib.Dec.{ltb, eqb}
 use Rattle.numbers.specs.Outcome.{and_then, pick}
-use Rattle.numbers.specs.Bytes.{part}
-use Rattle.numbers.specs.Format.{var_uint_of, NumberAt}
 use Rattle.numbers.specs.Answers.{Unsigned, unsigned, most_bytes}
 use Rattle.numbers.specs.Descriptor.{descriptor_of}
 use Rattle.numbers.specs.declared.type_descriptor.TypeDescriptor.{TypeDescriptor}
 use Rattle.numbers.proofs.Outcomes.{by_test, by_case, Each, given, each_refuse, each_pick, each_then, each_map, each_both, each_of}
 use Rattle.numbers.proofs.Meaning.{ReadAt, var_uint_each}
-use Rattle.framing.specs.Answers.{peeked_descriptor, Sized, length_at, value_code, bad_float, short_timestamp, empty_ordered, length_tests, value_length, fitting, value_without_annotations, padded, pad_at, Wrapping, wrapper_tests, annotations_at, wrapper_at, inner_value, wrapped, unwrapped, annotated_value, value_at, read_value, pad_or_none, read_pad, is_pad, is_wrapper, no_value}
+use Rattle.framing.specs.Answers.{peeked_descriptor, Sized, length_at, value_code, bad_float, short_timestamp, empty_ordered, length_tests, value_length, fitting, value_without_annotations, padded, pad_at, wrapper_at, inner_value, wrapped, unwrapped, annotated_value, value_at, read_value, pad_or_none, read_pad, is_pad, is_wrapper, no_value}
 use Rattle.framing.specs.Format.{type_at, code_at, CodeLength, short, long, ValueLength, none, null, coded, ordered, Legal, TypedValue, NopPadding, ValueBytes, plain, annotated}
 use Rattle.framing.specs.Meaning.{Within, ValuesSound, PadsSound}
 use Rattle.framing.proofs.Bounds.{peeked_each, SizedAt, length_each, plain_each, inner_peeked_each}

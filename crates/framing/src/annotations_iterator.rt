@@ -3,33 +3,33 @@ ghost use Rattle.std.specs.Prelude.{◌≡◌};
 ghost use Rattle.framing.specs.Answers.{read_annotation};
 ghost use Rattle.framing.specs.Read.{annotation_read};
 
-use numbers::binary_buffer::{outside, read_var_uint_slow};
-use numbers::refusal::{OUTSIDE, Refusal};
-use numbers::var_uint::VarUInt;
+use numbers::binary_buffer::{outside, read_var_uint};
+use numbers::refusal::{Reason, Refusal};
 
-#[derive(Clone, Copy)]
-pub enum Annotation {
-    // An ID, and where the next one begins.
-    Id { id: usize, next: usize },
-    End,
-    Refused(Refusal),
+// An annotation's ID, and where the next one begins.
+#[derive(Clone, Copy, Debug, PartialEq, Eq)]
+pub struct Annotation {
+    pub id: usize,
+    pub next: usize,
 }
 
-// The annotation ID at `at` of the annotation bytes that end at `end`.
-pub fn read_annotation(s: &[u8], at: usize, end: usize) -> Annotation
+// The annotation ID at `at` of the annotation bytes that end at `end`: none at their end.
+#[tactic(auto, using(std::proofs::lemmas::Bool::Decides::nat_tests), unfolding(crate::specs::Answers::read_annotation))]
+pub fn read_annotation(s: &[u8], at: usize, end: usize) -> Result<Option<Annotation>, Refusal>
     ensures { annotation_read result ≡ read_annotation s.now at end }
 {
     if outside(s, at, end) {
-        return Annotation::Refused(Refusal {
-            number: OUTSIDE,
+        return Err(Refusal {
+            reason: Reason::Outside,
             position: 0,
         });
     }
     if at == end {
-        return Annotation::End;
+        return Ok(None);
     }
-    match read_var_uint_slow(s, at, end) {
-        VarUInt::Value { value, next } => Annotation::Id { id: value, next },
-        VarUInt::Refused(refusal) => Annotation::Refused(refusal),
-    }
+    let number = read_var_uint(s, at, end)?;
+    Ok(Some(Annotation {
+        id: number.value,
+        next: number.next,
+    }))
 }

@@ -1,201 +1,156 @@
 // Annotation wrappers: where the annotations of a value start, and where the value stands.
 //
 // Each function reads the part at..end of `s`; `limit` is the most bytes that a value's annotations may have.
-ghost use Rattle.std.specs.Prelude.{◌≡◌, ◌+◌, ◌≤◌, ◌<◌, ◌^◌, length};
+ghost use Rattle.std.specs.Prelude.{◌≡◌, ◌+◌, ◌≤◌, ◌<◌, ◌^◌, length, IfOk};
 ghost use Rattle.numbers.specs.Answers.{most_bytes};
+ghost use Rattle.numbers.specs.Read.{unsigned_read};
 ghost use Rattle.framing.specs.Answers.{wrapper_tests, wrapper_at};
-ghost use Rattle.framing.specs.Read.{wrapper_read};
+ghost use Rattle.framing.specs.Read.{sized_of, wrapping_of, wrapper_read};
 ghost use Rattle.framing.specs.Private.Located.{located_read, inner_at, location_in_wrapper, location_at};
 
-use crate::binary_buffer::{Peeked, is_pad, is_wrapper, no_value, peek_compared};
+use crate::binary_buffer::{is_pad, is_wrapper, no_value, peek_type_descriptor};
+use crate::described::Described;
 use crate::encoded_value::{AnnotationsWrapper, Length, read_length};
 use numbers::binary_buffer::read_var_uint;
-use numbers::refusal::{
-    ANNOTATIONS_CUT, ANNOTATIONS_TOO_LONG, NO_ANNOTATIONS, NO_ROOM_FOR_VALUE, NOT_A_VALUE,
-    PAD_IN_WRAPPER, Refusal, TOO_MANY_ANNOTATIONS, WRAPPER_IN_WRAPPER,
-};
-use numbers::type_descriptor::TypeDescriptor;
+use numbers::refusal::{Reason, Refusal};
 use numbers::var_uint::VarUInt;
 
-// Tests the wrapper at `at`: its combined length is counted from `body` on, and its annotations' length, `size`, ends at
-// `annotations`.
+// Tests the wrapper at `at` by its combined length and its annotations' length.
+#[tactic(auto, using(std::proofs::lemmas::Bool::Decides::nat_tests), unfolding(crate::specs::Answers::wrapper_tests))]
 fn check_wrapper(
     at: usize,
     end: usize,
-    body: usize,
-    combined: usize,
-    size: usize,
-    annotations: usize,
+    combined: Length,
+    size: VarUInt,
     limit: usize,
-) -> AnnotationsWrapper
-    requires { (body ≤ annotations) × (annotations ≤ end) × (annotations ≤ body + most_bytes) × (size < 2 ^ 63) }
-    ensures { wrapper_read result ≡ wrapper_tests limit at end (record { body = body; size = combined }) (record { value = size; next = annotations }) }
+) -> Result<AnnotationsWrapper, Refusal>
+    requires { (combined.body ≤ size.next) × (size.next ≤ end) × (size.next ≤ combined.body + most_bytes) × (size.value < 2 ^ 63) }
+    ensures { wrapper_read result ≡ wrapper_tests limit at end (sized_of combined) (unsigned_read size) }
 {
+    let annotations = size.next;
+    let size = size.value;
     if size == 0 {
-        return AnnotationsWrapper::Refused(Refusal {
-            number: NO_ANNOTATIONS,
+        return Err(Refusal {
+            reason: Reason::NoAnnotations,
             position: at,
         });
     }
-    let header = annotations - body;
-    let needed = header + size;
-    if combined < needed {
-        return AnnotationsWrapper::Refused(Refusal {
-            number: ANNOTATIONS_TOO_LONG,
+    let needed = annotations - combined.body + size;
+    if combined.size < needed {
+        return Err(Refusal {
+            reason: Reason::AnnotationsTooLong,
             position: at,
         });
     }
-    if combined == needed {
-        return AnnotationsWrapper::Refused(Refusal {
-            number: NO_ROOM_FOR_VALUE,
+    if combined.size == needed {
+        return Err(Refusal {
+            reason: Reason::NoRoomForValue,
             position: at,
         });
     }
     if limit < size {
-        return AnnotationsWrapper::Refused(Refusal {
-            number: TOO_MANY_ANNOTATIONS,
+        return Err(Refusal {
+            reason: Reason::TooManyAnnotations,
             position: at,
         });
     }
     if end - annotations < size {
-        return AnnotationsWrapper::Refused(Refusal {
-            number: ANNOTATIONS_CUT,
+        return Err(Refusal {
+            reason: Reason::AnnotationsCut,
             position: annotations,
         });
     }
-    let value = annotations + size;
-    let expected = combined - needed;
-    AnnotationsWrapper::Wrapper {
+    Ok(AnnotationsWrapper {
         annotations,
-        value,
-        expected,
-    }
+        value: annotations + size,
+        expected: combined.size - needed,
+    })
 }
 
-// The wrapper with this descriptor at `at`.
-pub(crate) fn read_wrapper(
-    s: &[u8],
-    at: usize,
-    end: usize,
-    descriptor: TypeDescriptor,
-    limit: usize,
-) -> AnnotationsWrapper
-    requires { (at < end) × (end ≤ length s.now) }
-    ensures { wrapper_read result ≡ wrapper_at limit s.now at end descriptor }
+// The wrapper that begins here.
+#[tactic(auto, using(std::proofs::lemmas::Bool::Decides::nat_tests), unfolding(crate::specs::Answers::wrapper_at, crate::specs::Answers::annotations_at))]
+pub(crate) fn read_wrapper(place: Described, limit: usize) -> Result<AnnotationsWrapper, Refusal>
+    ensures { wrapper_read result ≡ wrapper_at limit place.entry.s.now place.entry.at place.entry.end place.entry.descriptor }
 {
-    let after = at + 1;
-    match read_length(s, after, end, descriptor.length_code) {
-        Length::Known { body, size } => match read_var_uint(s, body, end) {
-            VarUInt::Value { value, next } => check_wrapper(
-                at, end, body, size, value, next, limit,
-            ),
-            VarUInt::Refused(refusal) => AnnotationsWrapper::Refused(refusal),
-        },
-        Length::Refused(refusal) => AnnotationsWrapper::Refused(refusal),
-    }
+    let combined = read_length(
+        place.s,
+        place.at + 1,
+        place.end,
+        place.descriptor.length_code,
+    )?;
+    let size = read_var_uint(place.s, combined.body, place.end)?;
+    check_wrapper(place.at, place.end, combined, size, limit)
 }
 
-// Where a value stands, once its wrapper is read: `expected` is how long the wrapper's lengths say that it is, 0 where it has no wrapper.
+// A value where it stands, once its wrapper is read: `expected` is how long the wrapper's lengths say that it is, 0 where it has no wrapper.
 #[derive(Clone, Copy)]
-pub(crate) enum Located {
-    Value {
-        annotations: usize,
-        value: usize,
-        expected: usize,
-        descriptor: TypeDescriptor,
-    },
-    Refused(Refusal),
+pub(crate) struct Located<'a> {
+    pub annotations: usize,
+    pub value: Described<'a>,
+    pub expected: usize,
 }
 
-// What stands at `value` in a wrapper, where something does that may.
-fn locate_inner_value(
-    s: &[u8],
-    end: usize,
-    annotations: usize,
-    value: usize,
-    expected: usize,
-) -> Located
-    ensures { located_read result ≡ inner_at s.now end (record { annotations = annotations; value = value; expected = expected }) }
+// What stands in a wrapper that begins here, where something does that may.
+#[tactic(auto, using(std::proofs::lemmas::Bool::Decides::nat_tests), unfolding(crate::specs::Private::Located::inner_at, crate::specs::Private::Located::inner_tests))]
+fn locate_inner_value(place: Described, wrapper: AnnotationsWrapper) -> Result<Located<'_>, Refusal>
+    ensures answers { located_read result ≡ inner_at place.entry.s.now place.entry.end (wrapping_of wrapper) }
+    ensures there { IfOk result (λ l. (l.value.s.now ≡ place.entry.s.now) × (l.value.end ≡ place.entry.end)) }
 {
-    match peek_compared(s, value, end) {
-        Peeked::At(descriptor) => {
-            let kind = descriptor.kind;
-            if is_wrapper(kind) {
-                return Located::Refused(Refusal {
-                    number: WRAPPER_IN_WRAPPER,
-                    position: value,
-                });
-            }
-            if is_pad(kind) {
-                return Located::Refused(Refusal {
-                    number: PAD_IN_WRAPPER,
-                    position: value,
-                });
-            }
-            if no_value(kind) {
-                return Located::Refused(Refusal {
-                    number: NOT_A_VALUE,
-                    position: value,
-                });
-            }
-            Located::Value {
-                annotations,
-                value,
-                expected,
-                descriptor,
-            }
-        }
-        Peeked::Refused(refusal) => Located::Refused(refusal),
-    }
-}
-
-// Where the value of the wrapper with this descriptor at `at` stands: ion-rust's `read_annotated_value` up to the value's length, which `read_located_value` reads
-// with or without a wrapper.
-fn locate_annotated_value(
-    s: &[u8],
-    at: usize,
-    end: usize,
-    descriptor: TypeDescriptor,
-    limit: usize,
-) -> Located
-    requires { (at < end) × (end ≤ length s.now) }
-    ensures { located_read result ≡ location_in_wrapper limit s.now at end descriptor }
-{
-    match read_wrapper(s, at, end, descriptor, limit) {
-        AnnotationsWrapper::Wrapper {
-            annotations,
-            value,
-            expected,
-        } => locate_inner_value(s, end, annotations, value, expected),
-        AnnotationsWrapper::Refused(refusal) => Located::Refused(refusal),
-    }
-}
-
-// Where the value with this descriptor at `at`, or in the wrapper with this descriptor, stands.
-pub(crate) fn locate_value(
-    s: &[u8],
-    at: usize,
-    end: usize,
-    descriptor: TypeDescriptor,
-    limit: usize,
-) -> Located
-    requires { (at < end) × (end ≤ length s.now) }
-    ensures { located_read result ≡ location_at limit s.now at end descriptor }
-{
-    let kind = descriptor.kind;
-    if is_wrapper(kind) {
-        return locate_annotated_value(s, at, end, descriptor, limit);
-    }
-    if no_value(kind) {
-        return Located::Refused(Refusal {
-            number: NOT_A_VALUE,
-            position: at,
+    let value = peek_type_descriptor(place.s, wrapper.value, place.end)?;
+    if is_wrapper(value.descriptor.kind) {
+        return Err(Refusal {
+            reason: Reason::WrapperInWrapper,
+            position: wrapper.value,
         });
     }
-    Located::Value {
-        annotations: at,
-        value: at,
-        expected: 0,
-        descriptor,
+    if is_pad(value.descriptor.kind) {
+        return Err(Refusal {
+            reason: Reason::PadInWrapper,
+            position: wrapper.value,
+        });
     }
+    if no_value(value.descriptor.kind) {
+        return Err(Refusal {
+            reason: Reason::NotAValue,
+            position: wrapper.value,
+        });
+    }
+    Ok(Located {
+        annotations: wrapper.annotations,
+        value,
+        expected: wrapper.expected,
+    })
+}
+
+// The value of the wrapper that begins here: ion-rust's `read_annotated_value` up to the value's length, which `read_located_value` reads with or without a
+// wrapper.
+#[tactic(auto, using(std::proofs::lemmas::Bool::Decides::nat_tests), unfolding(crate::specs::Private::Located::location_in_wrapper))]
+fn locate_annotated_value(place: Described, limit: usize) -> Result<Located<'_>, Refusal>
+    ensures answers { located_read result ≡ location_in_wrapper limit place.entry.s.now place.entry.at place.entry.end place.entry.descriptor }
+    ensures there { IfOk result (λ l. (l.value.s.now ≡ place.entry.s.now) × (l.value.end ≡ place.entry.end)) }
+{
+    let wrapper = read_wrapper(place, limit)?;
+    locate_inner_value(place, wrapper)
+}
+
+// The value that begins here, or the one in the wrapper that does.
+#[tactic(auto, using(std::proofs::lemmas::Bool::Decides::nat_tests), unfolding(crate::specs::Private::Located::location_at))]
+pub(crate) fn locate_value(place: Described, limit: usize) -> Result<Located<'_>, Refusal>
+    ensures answers { located_read result ≡ location_at limit place.entry.s.now place.entry.at place.entry.end place.entry.descriptor }
+    ensures there { IfOk result (λ l. (l.value.s.now ≡ place.entry.s.now) × (l.value.end ≡ place.entry.end)) }
+{
+    if is_wrapper(place.descriptor.kind) {
+        return locate_annotated_value(place, limit);
+    }
+    if no_value(place.descriptor.kind) {
+        return Err(Refusal {
+            reason: Reason::NotAValue,
+            position: place.at,
+        });
+    }
+    Ok(Located {
+        annotations: place.at,
+        value: place,
+        expected: 0,
+    })
 }

@@ -1,285 +1,194 @@
 // Frames what stands at a position: values, pads and annotation wrappers.
 //
-// Each function reads the part at..end of `s`, whose first byte is the descriptor; `limit` is the most bytes that a value's annotations may have.
-ghost use Rattle.std.specs.Prelude.{◌≡◌, ℕ, ◌+◌, ◌≤◌, ◌<◌, length, get_or};
-ghost use Rattle.numbers.specs.ShortVarUInt.{short_bytes};
-ghost use Rattle.framing.specs.Answers.{peeked_descriptor, is_pad, is_wrapper, no_value, fitting, pad_at, value_at, frame_at, read_value, read_frame, read_value_length, read_pad, read_wrapper};
+// Each function reads the part at..end of `s`, whose first byte is the descriptor; `limit` is the most bytes that a value's annotations may have. The public ones
+// take these as parameters and no struct of them, since the layers above hand them on as C gave them; behind the first look they are in a `Described`.
+ghost use Rattle.std.specs.Prelude.{◌≡◌, ℕ, ◌+◌, ◌≤◌, ◌<◌, length, get_or, IfOk};
+ghost use Rattle.framing.specs.Answers.{peeked_descriptor, is_pad, is_wrapper, no_value, pad_at, value_at, frame_at, read_value, read_frame, read_value_length, read_pad, read_wrapper};
 ghost use Rattle.framing.specs.Limits.{limited};
 ghost use Rattle.framing.specs.ShortValue.{bare_spans, short_value_of, begins_value};
-ghost use Rattle.framing.specs.Read.{length_read, pad_read, wrapper_read, framed_read, frame_read, spans_of, short_value_read};
+ghost use Rattle.framing.specs.Read.{sized_of, length_read, pad_read, wrapper_read, framed_read, frame_read, spans_of, short_value_read};
 ghost use Rattle.framing.specs.Private.Peeked.{peeked_read};
-ghost use Rattle.framing.specs.Private.Located.{differs_from, fitted, located_value};
+ghost use Rattle.framing.specs.Private.Located.{location_of, differs_from, fitted, located_value};
 ghost use Rattle.framing.specs.Private.ShortLength.{ShortLengthAt};
 
 use crate::annotations_wrapper::{Located, locate_value, read_wrapper};
+use crate::described::Described;
 use crate::encoded_value::{
-    AnnotationsWrapper, EncodedValue, Frame, Framed, Length, NopPad, ShortLength, ShortValue,
-    has_inline_length, has_length_field, inline_length, read_length, too_short, value_length,
+    AnnotationsWrapper, EncodedValue, Frame, Length, NopPad, has_inline_length, has_length_field,
+    inline_length, read_length, too_short, value_length,
 };
 use crate::limits::out_of_range;
 use numbers::binary_buffer::{outside, short_var_uint};
-use numbers::refusal::{
-    LIMIT_OUT_OF_RANGE, NO_VALUE_LEFT, NOT_A_VALUE, OUTSIDE, PAD_CUT, Refusal, VALUE_CUT,
-    WRAPPED_LENGTH_DIFFERS,
-};
+use numbers::refusal::{Reason, Refusal};
 use numbers::type_descriptor::{Kind, TypeDescriptor};
-use numbers::var_uint::ShortVarUInt;
 
 // The first byte that begins a value and no pad, and the first that begins none again.
 const FIRST_VALUE: u8 = 0x0F;
 
 const FIRST_WRAPPER: u8 = 0xE0;
 
+// Tests of a kind, under the names that the contracts have for them.
 pub(crate) fn is_pad(kind: Kind) -> bool
     ensures { result ≡ is_pad kind }
 {
-    match kind {
-        Kind::Value => false,
-        Kind::Null => false,
-        Kind::Pad => true,
-        Kind::Marker => false,
-        Kind::Wrapper => false,
-        Kind::Reserved => false,
-    }
+    matches!(kind, Kind::Pad)
 }
 
 pub(crate) fn is_wrapper(kind: Kind) -> bool
     ensures { result ≡ is_wrapper kind }
 {
-    match kind {
-        Kind::Value => false,
-        Kind::Null => false,
-        Kind::Pad => false,
-        Kind::Marker => false,
-        Kind::Wrapper => true,
-        Kind::Reserved => false,
-    }
+    matches!(kind, Kind::Wrapper)
 }
 
 // Whether a descriptor begins no value.
 pub(crate) fn no_value(kind: Kind) -> bool
     ensures { result ≡ no_value kind }
 {
-    match kind {
-        Kind::Value => false,
-        Kind::Null => false,
-        Kind::Pad => true,
-        Kind::Marker => true,
-        Kind::Wrapper => true,
-        Kind::Reserved => true,
-    }
+    !matches!(kind, Kind::Value | Kind::Null)
 }
 
-// A descriptor that was looked at, where one can stand.
-#[derive(Clone, Copy)]
-pub(crate) enum Peeked {
-    At(TypeDescriptor),
-    Refused(Refusal),
-}
-
-// Looks at the descriptor at `at`, by the table: for the entries that no step calls.
-fn peek_type_descriptor(s: &[u8], at: usize, end: usize) -> Peeked
-    ensures { peeked_read result ≡ peeked_descriptor s.now at end }
+// Looks at the descriptor at `at`.
+#[tactic(auto, using(std::proofs::lemmas::Bool::Decides::nat_tests), unfolding(crate::specs::Answers::peeked_descriptor))]
+pub(crate) fn peek_type_descriptor(
+    s: &[u8],
+    at: usize,
+    end: usize,
+) -> Result<Described<'_>, Refusal>
+    ensures answers { peeked_read result ≡ peeked_descriptor s.now at end }
+    ensures there { IfOk result (λ d. (d.s.now ≡ s.now) × (d.at ≡ at) × (d.end ≡ end)) }
 {
     if outside(s, at, end) {
-        return Peeked::Refused(Refusal {
-            number: OUTSIDE,
+        return Err(Refusal {
+            reason: Reason::Outside,
             position: 0,
         });
     }
     if at == end {
-        return Peeked::Refused(Refusal {
-            number: NO_VALUE_LEFT,
+        return Err(Refusal {
+            reason: Reason::NoValueLeft,
             position: end,
         });
     }
-    Peeked::At(TypeDescriptor::from_byte(s[at]))
+    Ok(Described {
+        s,
+        at,
+        end,
+        descriptor: TypeDescriptor::from_byte(s[at]),
+    })
 }
 
-// The same by comparisons, for the steps: a look into the table first writes all of it to the stack.
-pub(crate) fn peek_compared(s: &[u8], at: usize, end: usize) -> Peeked
-    ensures { peeked_read result ≡ peeked_descriptor s.now at end }
+// The pad that begins here.
+#[tactic(auto, using(std::proofs::lemmas::Bool::Decides::nat_tests), unfolding(crate::specs::Answers::pad_at, crate::specs::Answers::padded))]
+fn read_pad(place: Described) -> Result<NopPad, Refusal>
+    ensures { pad_read result ≡ pad_at place.entry.s.now place.entry.at place.entry.end place.entry.descriptor }
 {
-    if outside(s, at, end) {
-        return Peeked::Refused(Refusal {
-            number: OUTSIDE,
-            position: 0,
+    let Length { body, size } = read_length(
+        place.s,
+        place.at + 1,
+        place.end,
+        place.descriptor.length_code,
+    )?;
+    if place.end - body < size {
+        return Err(Refusal {
+            reason: Reason::PadCut,
+            position: body,
         });
     }
-    if at == end {
-        return Peeked::Refused(Refusal {
-            number: NO_VALUE_LEFT,
-            position: end,
-        });
-    }
-    Peeked::At(TypeDescriptor::compared(s[at]))
-}
-
-// The pad with this descriptor at `at`.
-fn read_pad(s: &[u8], at: usize, end: usize, descriptor: TypeDescriptor) -> NopPad
-    requires { (at < end) × (end ≤ length s.now) }
-    ensures { pad_read result ≡ pad_at s.now at end descriptor }
-{
-    let after = at + 1;
-    match read_length(s, after, end, descriptor.length_code) {
-        Length::Known { body, size } => {
-            if end - body < size {
-                return NopPad::Refused(Refusal {
-                    number: PAD_CUT,
-                    position: body,
-                });
-            }
-            let past = body + size;
-            NopPad::Pad { body, end: past }
-        }
-        Length::Refused(refusal) => NopPad::Refused(refusal),
-    }
+    let past = body + size;
+    Ok(NopPad { body, end: past })
 }
 
 // Whether a value's length differs from what its wrapper says, if it has one.
+#[tactic(auto, using(std::proofs::lemmas::Bool::Decides::nat_tests), unfolding(crate::specs::Private::Located::differs_from))]
 fn differs(expected: usize, size: usize) -> bool
     ensures { result ≡ differs_from expected size }
 {
-    if expected == 0 {
-        return false;
-    }
-    size != expected
+    expected != 0 && size != expected
 }
 
-// The value whose descriptor is at `value`, in the item at `at`, and whose body is to begin at `body` and have `size` bytes.
-fn fit_value(
-    at: usize,
-    end: usize,
-    annotations: usize,
-    value: usize,
-    expected: usize,
-    byte: u8,
-    body: usize,
-    size: usize,
-) -> Framed
-    requires { (value ≤ body) × (body ≤ end) }
-    ensures { framed_read result ≡ fitted at end annotations value expected byte (record { body = body; size = size }) }
+// The value that is located here, in the item at `at`, where it has this first byte and is to have this length.
+#[tactic(auto, using(std::proofs::lemmas::Bool::Decides::nat_tests), unfolding(crate::specs::Private::Located::fitted))]
+fn fit_value(at: usize, found: Located, byte: u8, size: Length) -> Result<EncodedValue, Refusal>
+    requires { (found.value.at ≤ size.body) × (size.body ≤ found.value.end) }
+    ensures { framed_read result ≡ fitted at found.entry.value.end found.entry.annotations found.entry.value.at found.entry.expected byte (sized_of size) }
 {
-    if end - body < size {
-        return Framed::Refused(Refusal {
-            number: VALUE_CUT,
-            position: value,
+    let value = found.value;
+    if value.end - size.body < size.size {
+        return Err(Refusal {
+            reason: Reason::ValueCut,
+            position: value.at,
         });
     }
-    let after = body + size;
-    if differs(expected, after - value) {
-        return Framed::Refused(Refusal {
-            number: WRAPPED_LENGTH_DIFFERS,
+    let after = size.body + size.size;
+    if differs(found.expected, after - value.at) {
+        return Err(Refusal {
+            reason: Reason::WrappedLengthDiffers,
             position: at,
         });
     }
-    Framed::Value(EncodedValue {
+    Ok(EncodedValue {
         start: at,
-        annotations,
-        descriptor: value,
-        body,
+        annotations: found.annotations,
+        descriptor: value.at,
+        body: size.body,
         end: after,
         byte,
     })
 }
 
-// The value at `at` whose body is to begin at `body`, after a short length field, and have `size` bytes, if it fits.
-fn fit_short(at: usize, end: usize, body: usize, size: usize) -> ShortValue
-    requires { (body ≤ end) × (body ≤ at + 1 + short_bytes) }
-    ensures { (byte : ℕ) → short_value_read byte at result ≡ short_value_of at (fitting at end byte (record { body = body; size = size })) }
+// The value that is located here, in the item at `at`.
+#[tactic(auto, using(std::proofs::lemmas::Bool::Decides::nat_tests), unfolding(crate::specs::Private::Located::located_value))]
+fn read_located_value(at: usize, located: Located) -> Result<EncodedValue, Refusal>
+    ensures { framed_read result ≡ located_value located.entry.value.s.now at located.entry.value.end (location_of located.entry) }
 {
-    if end - body < size {
-        return ShortValue::Other;
-    }
-    ShortValue::Value { body, size }
+    let byte = located.value.s[located.value.at];
+    let size = value_length(located.value)?;
+    fit_value(at, located, byte, size)
 }
 
-// The value that stands at `value` with this descriptor, in the item at `at`.
-fn read_located_value(
-    s: &[u8],
-    at: usize,
-    end: usize,
-    annotations: usize,
-    value: usize,
-    expected: usize,
-    descriptor: TypeDescriptor,
-) -> Framed
-    requires { (value < end) × (end ≤ length s.now) }
-    ensures { framed_read result ≡ located_value s.now at end (record { annotations = annotations; value = value; expected = expected; descriptor = descriptor }) }
+// The value that begins here, with or without a wrapper.
+#[tactic(auto, using(std::proofs::lemmas::Bool::Decides::nat_tests, crate::proofs::Location::value_located))]
+fn read_value_at(place: Described, limit: usize) -> Result<EncodedValue, Refusal>
+    ensures { framed_read result ≡ value_at limit place.entry.s.now place.entry.at place.entry.end place.entry.descriptor }
 {
-    let byte = s[value];
-    match value_length(s, value, end, descriptor) {
-        Length::Known { body, size } => {
-            fit_value(at, end, annotations, value, expected, byte, body, size)
-        }
-        Length::Refused(refusal) => Framed::Refused(refusal),
-    }
+    let located = locate_value(place, limit)?;
+    read_located_value(place.at, located)
 }
 
-// The value with this descriptor at `at`, with or without a wrapper.
-fn read_value_at(
-    s: &[u8],
-    at: usize,
-    end: usize,
-    descriptor: TypeDescriptor,
-    limit: usize,
-) -> Framed
-    requires { (at < end) × (end ≤ length s.now) }
-    ensures { framed_read result ≡ value_at limit s.now at end descriptor }
+// The pad or the value that begins here.
+#[tactic(auto, using(std::proofs::lemmas::Bool::Decides::nat_tests), unfolding(crate::specs::Answers::frame_at))]
+fn read_frame_at(place: Described, limit: usize) -> Result<Frame, Refusal>
+    ensures { frame_read result ≡ frame_at limit place.entry.s.now place.entry.at place.entry.end place.entry.descriptor }
 {
-    match locate_value(s, at, end, descriptor, limit) {
-        Located::Value {
-            annotations,
-            value,
-            expected,
-            descriptor: inner,
-        } => read_located_value(s, at, end, annotations, value, expected, inner),
-        Located::Refused(refusal) => Framed::Refused(refusal),
+    if is_pad(place.descriptor.kind) {
+        let pad = read_pad(place)?;
+        return Ok(Frame::Pad(pad));
     }
-}
-
-// The pad or the value with this descriptor at `at`.
-fn read_frame_at(s: &[u8], at: usize, end: usize, descriptor: TypeDescriptor, limit: usize) -> Frame
-    requires { (at < end) × (end ≤ length s.now) }
-    ensures { frame_read result ≡ frame_at limit s.now at end descriptor }
-{
-    let kind = descriptor.kind;
-    if is_pad(kind) {
-        return match read_pad(s, at, end, descriptor) {
-            NopPad::Pad { body, end: past } => Frame::Pad { body, end: past },
-            NopPad::Refused(refusal) => Frame::Refused(refusal),
-        };
-    }
-    match read_value_at(s, at, end, descriptor, limit) {
-        Framed::Value(value) => Frame::Value(value),
-        Framed::Refused(refusal) => Frame::Refused(refusal),
-    }
+    let value = read_value_at(place, limit)?;
+    Ok(Frame::Value(value))
 }
 
 // The value at `at`, with or without a wrapper.
-pub fn read_value(s: &[u8], at: usize, end: usize, limit: usize) -> Framed
+#[tactic(auto, using(std::proofs::lemmas::Bool::Decides::nat_tests), unfolding(crate::specs::Answers::read_value))]
+pub fn read_value(s: &[u8], at: usize, end: usize, limit: usize) -> Result<EncodedValue, Refusal>
     ensures { framed_read result ≡ limited limit (read_value limit s.now at end) }
 {
     if out_of_range(limit) {
-        return Framed::Refused(Refusal {
-            number: LIMIT_OUT_OF_RANGE,
+        return Err(Refusal {
+            reason: Reason::LimitOutOfRange,
             position: 0,
         });
     }
-    match peek_type_descriptor(s, at, end) {
-        Peeked::At(descriptor) => read_value_at(s, at, end, descriptor, limit),
-        Peeked::Refused(refusal) => Framed::Refused(refusal),
-    }
+    let place = peek_type_descriptor(s, at, end)?;
+    read_value_at(place, limit)
 }
 
 // Whether a byte begins a value or a null, without a wrapper.
+#[tactic(auto, using(std::proofs::lemmas::Bool::Decides::nat_tests), unfolding(crate::specs::ShortValue::begins_value, numbers::specs::Descriptor::kind_of))]
 fn begins_value(byte: u8) -> bool
     ensures { result ≡ begins_value byte }
 {
-    if byte < FIRST_VALUE {
-        return false;
-    }
-    byte < FIRST_WRAPPER
+    FIRST_VALUE <= byte && byte < FIRST_WRAPPER
 }
 
 // The value without a wrapper whose descriptor is this byte at `at`, with the body body..end.
@@ -297,127 +206,113 @@ pub fn bare_value(byte: u8, at: usize, body: usize, end: usize) -> EncodedValue
 }
 
 // The length of the value at `at`, where it has no wrapper and a length field of three bytes at most: its descriptor tells it, or a short VarUInt does.
-fn short_length(s: &[u8], at: usize, end: usize) -> ShortLength
+fn short_length(s: &[u8], at: usize, end: usize) -> Option<Length>
     requires { (at < end) × (end ≤ length s.now) }
     ensures { ShortLengthAt s.now at end result }
 {
-    let byte = s[at];
+    let descriptor = TypeDescriptor::from_byte(s[at]);
     let after = at + 1;
-    if has_inline_length(byte / 16, byte % 16) {
-        let size = inline_length(byte / 16, byte % 16);
-        return ShortLength::Known { body: after, size };
+    if has_inline_length(descriptor) {
+        let size = inline_length(descriptor);
+        return Some(Length { body: after, size });
     }
-    if !has_length_field(byte / 16, byte % 16) {
-        return ShortLength::Other;
+    if !has_length_field(descriptor) {
+        return None;
     }
-    match short_var_uint(s, after, end) {
-        ShortVarUInt::Value { value, next } => {
-            if too_short(byte / 16, byte % 16, value) {
-                return ShortLength::Other;
-            }
-            ShortLength::Known {
-                body: next,
-                size: value,
-            }
-        }
-        ShortVarUInt::Other => ShortLength::Other,
+    let number = short_var_uint(s, after, end)?;
+    if too_short(descriptor, number.value) {
+        return None;
     }
+    Some(Length {
+        body: number.next,
+        size: number.value,
+    })
 }
 
-// The value at `at`, where it has no wrapper and its length field has three bytes at most.
-pub fn short_value(s: &[u8], at: usize, end: usize) -> ShortValue
+// The length of the value at `at`, where it has no wrapper and its length field has three bytes at most: most values are such. Nothing is said of another.
+pub fn short_value(s: &[u8], at: usize, end: usize) -> Option<Length>
     ensures { (limit : ℕ) → short_value_read (get_or s.now at 0) at result ≡ short_value_of at (read_value limit s.now at end) }
 {
-    if s.len() < end {
-        return ShortValue::Other;
-    }
-    if end <= at {
-        return ShortValue::Other;
+    if s.len() < end || end <= at {
+        return None;
     }
     if !begins_value(s[at]) {
-        return ShortValue::Other;
+        return None;
     }
-    match short_length(s, at, end) {
-        ShortLength::Known { body, size } => fit_short(at, end, body, size),
-        ShortLength::Other => ShortValue::Other,
+    let size = short_length(s, at, end)?;
+    if end - size.body < size.size {
+        return None;
     }
+    Some(size)
 }
 
 // The pad or the value at `at`.
-pub fn read_frame(s: &[u8], at: usize, end: usize, limit: usize) -> Frame
+#[tactic(auto, using(std::proofs::lemmas::Bool::Decides::nat_tests), unfolding(crate::specs::Answers::read_frame))]
+pub fn read_frame(s: &[u8], at: usize, end: usize, limit: usize) -> Result<Frame, Refusal>
     ensures { frame_read result ≡ limited limit (read_frame limit s.now at end) }
 {
     if out_of_range(limit) {
-        return Frame::Refused(Refusal {
-            number: LIMIT_OUT_OF_RANGE,
+        return Err(Refusal {
+            reason: Reason::LimitOutOfRange,
             position: 0,
         });
     }
-    match peek_compared(s, at, end) {
-        Peeked::At(descriptor) => read_frame_at(s, at, end, descriptor, limit),
-        Peeked::Refused(refusal) => Frame::Refused(refusal),
-    }
+    let place = peek_type_descriptor(s, at, end)?;
+    read_frame_at(place, limit)
 }
 
 // The length of the value at `at` without annotations.
-pub fn read_value_length(s: &[u8], at: usize, end: usize) -> Length
+#[tactic(auto, using(std::proofs::lemmas::Bool::Decides::nat_tests), unfolding(crate::specs::Answers::read_value_length, crate::specs::Answers::length_or_none))]
+pub fn read_value_length(s: &[u8], at: usize, end: usize) -> Result<Length, Refusal>
     ensures { length_read result ≡ read_value_length s.now at end }
 {
-    match peek_type_descriptor(s, at, end) {
-        Peeked::At(descriptor) => {
-            let kind = descriptor.kind;
-            if no_value(kind) {
-                return Length::Refused(Refusal {
-                    number: NOT_A_VALUE,
-                    position: at,
-                });
-            }
-            value_length(s, at, end, descriptor)
-        }
-        Peeked::Refused(refusal) => Length::Refused(refusal),
+    let place = peek_type_descriptor(s, at, end)?;
+    if no_value(place.descriptor.kind) {
+        return Err(Refusal {
+            reason: Reason::NotAValue,
+            position: at,
+        });
     }
+    value_length(place)
 }
 
 // The pad at `at`.
-pub fn read_nop_pad(s: &[u8], at: usize, end: usize) -> NopPad
+#[tactic(auto, using(std::proofs::lemmas::Bool::Decides::nat_tests), unfolding(crate::specs::Answers::read_pad, crate::specs::Answers::pad_or_none))]
+pub fn read_nop_pad(s: &[u8], at: usize, end: usize) -> Result<NopPad, Refusal>
     ensures { pad_read result ≡ read_pad s.now at end }
 {
-    match peek_type_descriptor(s, at, end) {
-        Peeked::At(descriptor) => {
-            let kind = descriptor.kind;
-            if !is_pad(kind) {
-                return NopPad::Refused(Refusal {
-                    number: NOT_A_VALUE,
-                    position: at,
-                });
-            }
-            read_pad(s, at, end, descriptor)
-        }
-        Peeked::Refused(refusal) => NopPad::Refused(refusal),
+    let place = peek_type_descriptor(s, at, end)?;
+    if !is_pad(place.descriptor.kind) {
+        return Err(Refusal {
+            reason: Reason::NotAValue,
+            position: at,
+        });
     }
+    read_pad(place)
 }
 
 // The wrapper at `at`.
-pub fn read_annotations_wrapper(s: &[u8], at: usize, end: usize, limit: usize) -> AnnotationsWrapper
+#[tactic(auto, using(std::proofs::lemmas::Bool::Decides::nat_tests), unfolding(crate::specs::Answers::read_wrapper, crate::specs::Answers::wrapper_or_none))]
+pub fn read_annotations_wrapper(
+    s: &[u8],
+    at: usize,
+    end: usize,
+    limit: usize,
+) -> Result<AnnotationsWrapper, Refusal>
     ensures { wrapper_read result ≡ limited limit (read_wrapper limit s.now at end) }
 {
     if out_of_range(limit) {
-        return AnnotationsWrapper::Refused(Refusal {
-            number: LIMIT_OUT_OF_RANGE,
+        return Err(Refusal {
+            reason: Reason::LimitOutOfRange,
             position: 0,
         });
     }
-    match peek_type_descriptor(s, at, end) {
-        Peeked::At(descriptor) => {
-            let kind = descriptor.kind;
-            if !is_wrapper(kind) {
-                return AnnotationsWrapper::Refused(Refusal {
-                    number: NOT_A_VALUE,
-                    position: at,
-                });
-            }
-            read_wrapper(s, at, end, descriptor, limit)
-        }
-        Peeked::Refused(refusal) => AnnotationsWrapper::Refused(refusal),
+    let place = peek_type_descriptor(s, at, end)?;
+    if !is_wrapper(place.descriptor.kind) {
+        return Err(Refusal {
+            reason: Reason::NotAValue,
+            position: at,
+        });
     }
+    read_wrapper(place, limit)
 }

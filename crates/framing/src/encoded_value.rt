@@ -1,15 +1,15 @@
 // A value's place in the slice, and its length.
-ghost use Rattle.std.specs.Prelude.{◌≡◌, ◌≤◌, ◌<◌, length};
+ghost use Rattle.std.specs.Prelude.{◌≡◌, ◌≤◌, ◌<◌, length, IfOk};
 ghost use Rattle.framing.specs.Answers.{length_at, value_code, bad_float, short_timestamp, empty_ordered, length_tests, value_length};
-ghost use Rattle.framing.specs.Read.{length_read};
+ghost use Rattle.framing.specs.Read.{sized_of, length_read};
 ghost use Rattle.framing.specs.Private.InlineLengths.{has_inline_length, inline_length, inline_codes, is_ordered, has_length_field, too_short};
 
+use crate::described::Described;
 use numbers::binary_buffer::read_var_uint;
-use numbers::refusal::{BAD_FLOAT_LENGTH, EMPTY_ORDERED_STRUCT, Refusal, TIMESTAMP_TOO_SHORT};
+use numbers::refusal::{Reason, Refusal};
 use numbers::type_descriptor::TypeDescriptor;
-use numbers::var_uint::VarUInt;
 
-#[derive(Clone, Copy)]
+#[derive(Clone, Copy, Debug, PartialEq, Eq)]
 pub struct EncodedValue {
     // Where the value with its wrapper starts.
     pub start: usize,
@@ -25,94 +25,61 @@ pub struct EncodedValue {
 }
 
 // A value's length, and where its body starts.
-#[derive(Clone, Copy)]
-pub enum Length {
-    Known { body: usize, size: usize },
-    Refused(Refusal),
+#[derive(Clone, Copy, Debug, PartialEq, Eq)]
+pub struct Length {
+    pub body: usize,
+    pub size: usize,
 }
 
 // A pad: its body, and where it ends.
-#[derive(Clone, Copy)]
-pub enum NopPad {
-    Pad { body: usize, end: usize },
-    Refused(Refusal),
+#[derive(Clone, Copy, Debug, PartialEq, Eq)]
+pub struct NopPad {
+    pub body: usize,
+    pub end: usize,
 }
 
 // A wrapper: where its annotations start, where its value stands, and how long that is to be.
-#[derive(Clone, Copy)]
-pub enum AnnotationsWrapper {
-    Wrapper {
-        annotations: usize,
-        value: usize,
-        expected: usize,
-    },
-    Refused(Refusal),
-}
-
-// A value.
-#[derive(Clone, Copy)]
-pub enum Framed {
-    Value(EncodedValue),
-    Refused(Refusal),
+#[derive(Clone, Copy, Debug, PartialEq, Eq)]
+pub struct AnnotationsWrapper {
+    pub annotations: usize,
+    pub value: usize,
+    pub expected: usize,
 }
 
 // What a step meets: a pad or a value.
-#[derive(Clone, Copy)]
+#[derive(Clone, Copy, Debug, PartialEq, Eq)]
 pub enum Frame {
-    Pad { body: usize, end: usize },
+    Pad(NopPad),
     Value(EncodedValue),
-    Refused(Refusal),
 }
 
-// A value without a wrapper whose length field has at most three bytes: most values are such. Nothing is said of another.
-#[derive(Clone, Copy)]
-pub enum ShortValue {
-    Value { body: usize, size: usize },
-    Other,
-}
-
-// The length of such a value, and where its body is to begin.
-#[derive(Clone, Copy)]
-pub(crate) enum ShortLength {
-    Known { body: usize, size: usize },
-    Other,
-}
-
-// For each type code, the length codes that tell a value's length by themselves: a bit for each code, the lowest for 0.
+// For each type code, the length codes that tell a value's length by themselves: a bit for each code, the lowest for 0. A match on both codes was
+// tried, and takes a tenth more instructions for each value that `short_value` answers.
 const INLINE_LENGTHS: [u16; 16] = [
     0x8000, 0xFFFF, 0xBFFF, 0xBFFF, 0x8111, 0xBFFF, 0xBFFC, 0xBFFF, 0xBFFF, 0xBFFF, 0xBFFF, 0xBFFF,
     0xBFFF, 0xBFFD, 0, 0,
 ];
 
-// The types whose values have a VarUInt for their length with length code 14: a bit for each type code, the lowest for 0. A float has none.
-const TYPES_WITH_LENGTH_FIELD: u16 = 0x3FEC;
-
 // The length that a length code tells; its VarUInt, if it has one, is at `at`.
-pub(crate) fn read_length(s: &[u8], at: usize, end: usize, code: u8) -> Length
-    ensures { length_read result ≡ length_at s.now at end code }
+#[tactic(auto, using(std::proofs::lemmas::Bool::Decides::nat_tests), unfolding(crate::specs::Answers::length_at))]
+pub(crate) fn read_length(s: &[u8], at: usize, end: usize, code: u8) -> Result<Length, Refusal>
+    ensures answers { length_read result ≡ length_at s.now at end code }
+    ensures in_part { at ≤ end → IfOk result (λ l. (at ≤ l.body) × (l.body ≤ end)) }
 {
     if code == 15 {
-        return Length::Known { body: at, size: 0 };
+        return Ok(Length { body: at, size: 0 });
     }
     if code != 14 {
-        return Length::Known {
+        return Ok(Length {
             body: at,
-            size: code as usize,
-        };
+            size: usize::from(code),
+        });
     }
-    match read_var_uint(s, at, end) {
-        VarUInt::Value { value, next } => Length::Known {
-            body: next,
-            size: value,
-        },
-        VarUInt::Refused(refusal) => Length::Refused(refusal),
-    }
-}
-
-fn wide(x: u8) -> usize
-    ensures { result ≡ x }
-{
-    x as usize
+    let number = read_var_uint(s, at, end)?;
+    Ok(Length {
+        body: number.next,
+        size: number.value,
+    })
 }
 
 // The length codes of a type that tell a value's length.
@@ -120,172 +87,129 @@ fn inline_codes(type_code: u8) -> u16
     requires { type_code < 16 }
     ensures { result ≡ inline_codes type_code }
 {
-    INLINE_LENGTHS[type_code as usize]
+    INLINE_LENGTHS[usize::from(type_code)]
 }
 
 // Whether a value's descriptor tells its length: no VarUInt says it, and no test of it fails.
-pub(crate) fn has_inline_length(type_code: u8, length_code: u8) -> bool
-    ensures { result ≡ has_inline_length type_code length_code }
+pub(crate) fn has_inline_length(descriptor: TypeDescriptor) -> bool
+    ensures { result ≡ has_inline_length descriptor.type_code descriptor.length_code }
 {
-    if 15 < type_code {
+    if 15 < descriptor.type_code || 15 < descriptor.length_code {
         return false;
     }
-    if 15 < length_code {
-        return false;
-    }
-    (inline_codes(type_code) >> length_code) % 2 == 1
+    (inline_codes(descriptor.type_code) >> descriptor.length_code) % 2 == 1
 }
 
 // The length that such a descriptor tells.
-pub(crate) fn inline_length(type_code: u8, length_code: u8) -> usize
-    ensures { result ≡ inline_length type_code length_code }
+#[tactic(auto, using(std::proofs::lemmas::Bool::Decides::nat_tests), unfolding(crate::specs::Private::InlineLengths::inline_length))]
+pub(crate) fn inline_length(descriptor: TypeDescriptor) -> usize
+    ensures { result ≡ inline_length descriptor.type_code descriptor.length_code }
 {
-    if type_code < 2 {
+    if descriptor.type_code < 2 || descriptor.length_code == 15 {
         return 0;
     }
-    if length_code == 15 {
-        return 0;
-    }
-    wide(length_code)
+    usize::from(descriptor.length_code)
+}
+
+#[tactic(auto, using(std::proofs::lemmas::Bool::Decides::nat_tests), unfolding(crate::specs::Private::InlineLengths::is_ordered))]
+fn is_ordered(descriptor: TypeDescriptor) -> bool
+    ensures { result ≡ is_ordered descriptor.type_code descriptor.length_code }
+{
+    descriptor.type_code == 13 && descriptor.length_code == 1
 }
 
 // The length code that a value is read by: none for null and bool, and a VarUInt for an ordered struct.
-fn value_code(type_code: u8, length_code: u8) -> u8
-    ensures { result ≡ value_code type_code length_code }
+#[tactic(auto, using(std::proofs::lemmas::Bool::Decides::nat_tests), unfolding(crate::specs::Answers::value_code, crate::specs::Private::InlineLengths::is_ordered))]
+fn value_code(descriptor: TypeDescriptor) -> u8
+    ensures { result ≡ value_code descriptor.type_code descriptor.length_code }
 {
-    if type_code < 2 {
+    if descriptor.type_code < 2 {
         return 0;
     }
-    if type_code != 13 {
-        return length_code;
-    }
-    if length_code == 1 {
+    if is_ordered(descriptor) {
         return 14;
     }
-    length_code
+    descriptor.length_code
 }
 
-fn bad_float(type_code: u8, length_code: u8) -> bool
-    ensures { result ≡ bad_float type_code length_code }
+#[tactic(auto, using(std::proofs::lemmas::Bool::Decides::nat_tests), unfolding(crate::specs::Answers::bad_float))]
+fn bad_float(descriptor: TypeDescriptor) -> bool
+    ensures { result ≡ bad_float descriptor.type_code descriptor.length_code }
 {
-    if type_code != 4 {
-        return false;
-    }
-    if length_code == 0 {
-        return false;
-    }
-    if length_code == 4 {
-        return false;
-    }
-    if length_code == 8 {
-        return false;
-    }
-    length_code != 15
+    descriptor.type_code == 4 && !matches!(descriptor.length_code, 0 | 4 | 8 | 15)
 }
 
-fn is_ordered(type_code: u8, length_code: u8) -> bool
-    ensures { result ≡ is_ordered type_code length_code }
+// Whether a VarUInt says the length of a value with this descriptor. A float has none.
+#[tactic(auto, using(std::proofs::lemmas::Bool::Decides::nat_tests), unfolding(crate::specs::Private::InlineLengths::has_length_field, crate::specs::Private::InlineLengths::is_ordered, crate::specs::Answers::value_code, crate::specs::Answers::bad_float))]
+pub(crate) fn has_length_field(descriptor: TypeDescriptor) -> bool
+    ensures { result ≡ has_length_field descriptor.type_code descriptor.length_code }
 {
-    if type_code != 13 {
-        return false;
+    if descriptor.length_code != 14 {
+        return is_ordered(descriptor);
     }
-    length_code == 1
+    2 <= descriptor.type_code && descriptor.type_code < 14 && descriptor.type_code != 4
 }
 
-// Whether a VarUInt says the length of a value with this descriptor.
-pub(crate) fn has_length_field(type_code: u8, length_code: u8) -> bool
-    ensures { result ≡ has_length_field type_code length_code }
+#[tactic(auto, using(std::proofs::lemmas::Bool::Decides::nat_tests), unfolding(crate::specs::Answers::short_timestamp))]
+fn short_timestamp(descriptor: TypeDescriptor, size: usize) -> bool
+    ensures { result ≡ short_timestamp descriptor.type_code descriptor.length_code size }
 {
-    if length_code != 14 {
-        return is_ordered(type_code, length_code);
-    }
-    if 15 < type_code {
-        return false;
-    }
-    (TYPES_WITH_LENGTH_FIELD >> type_code) % 2 == 1
+    descriptor.type_code == 6 && descriptor.length_code != 15 && size < 2
 }
 
-fn short_timestamp(type_code: u8, length_code: u8, size: usize) -> bool
-    ensures { result ≡ short_timestamp type_code length_code size }
+#[tactic(auto, using(std::proofs::lemmas::Bool::Decides::nat_tests), unfolding(crate::specs::Answers::empty_ordered, crate::specs::Private::InlineLengths::is_ordered))]
+fn empty_ordered(descriptor: TypeDescriptor, size: usize) -> bool
+    ensures { result ≡ empty_ordered descriptor.type_code descriptor.length_code size }
 {
-    if type_code != 6 {
-        return false;
-    }
-    if length_code == 15 {
-        return false;
-    }
-    size < 2
-}
-
-fn empty_ordered(type_code: u8, length_code: u8, size: usize) -> bool
-    ensures { result ≡ empty_ordered type_code length_code size }
-{
-    if type_code != 13 {
-        return false;
-    }
-    if length_code != 1 {
-        return false;
-    }
-    size == 0
+    is_ordered(descriptor) && size == 0
 }
 
 // Whether a timestamp or an ordered struct is too short: no other value can be.
-pub(crate) fn too_short(type_code: u8, length_code: u8, size: usize) -> bool
-    ensures { result ≡ too_short type_code length_code size }
+#[tactic(auto, using(std::proofs::lemmas::Bool::Decides::nat_tests), unfolding(crate::specs::Private::InlineLengths::too_short, crate::specs::Answers::short_timestamp, crate::specs::Answers::empty_ordered))]
+pub(crate) fn too_short(descriptor: TypeDescriptor, size: usize) -> bool
+    ensures { result ≡ too_short descriptor.type_code descriptor.length_code size }
 {
-    if 2 <= size {
-        return false;
-    }
-    if short_timestamp(type_code, length_code, size) {
-        return true;
-    }
-    empty_ordered(type_code, length_code, size)
+    size < 2 && (short_timestamp(descriptor, size) || empty_ordered(descriptor, size))
 }
 
-// Tests the length of the value at `at` by its type.
-fn check_length(at: usize, type_code: u8, length_code: u8, body: usize, size: usize) -> Length
-    ensures { length_read result ≡ length_tests at type_code length_code (record { body = body; size = size }) }
+// Tests the length of the value with this descriptor at `at`.
+#[tactic(auto, using(std::proofs::lemmas::Bool::Decides::nat_tests), unfolding(crate::specs::Answers::length_tests))]
+fn check_length(at: usize, descriptor: TypeDescriptor, length: Length) -> Result<Length, Refusal>
+    ensures { length_read result ≡ length_tests at descriptor.type_code descriptor.length_code (sized_of length) }
 {
-    if bad_float(type_code, length_code) {
-        return Length::Refused(Refusal {
-            number: BAD_FLOAT_LENGTH,
+    if bad_float(descriptor) {
+        return Err(Refusal {
+            reason: Reason::BadFloatLength,
             position: at,
         });
     }
-    if short_timestamp(type_code, length_code, size) {
-        return Length::Refused(Refusal {
-            number: TIMESTAMP_TOO_SHORT,
+    if short_timestamp(descriptor, length.size) {
+        return Err(Refusal {
+            reason: Reason::TimestampTooShort,
             position: at,
         });
     }
-    if empty_ordered(type_code, length_code, size) {
-        return Length::Refused(Refusal {
-            number: EMPTY_ORDERED_STRUCT,
+    if empty_ordered(descriptor, length.size) {
+        return Err(Refusal {
+            reason: Reason::EmptyOrderedStruct,
             position: at,
         });
     }
-    Length::Known { body, size }
+    Ok(length)
 }
 
-// The length of the value with this descriptor at `at`.
-pub(crate) fn value_length(s: &[u8], at: usize, end: usize, descriptor: TypeDescriptor) -> Length
-    requires { (at < end) × (end ≤ length s.now) }
-    ensures { length_read result ≡ value_length s.now at end descriptor }
+// The length of the value that begins here.
+#[tactic(auto, using(std::proofs::lemmas::Bool::Decides::nat_tests), unfolding(crate::specs::Answers::value_length))]
+pub(crate) fn value_length(place: Described) -> Result<Length, Refusal>
+    ensures { length_read result ≡ value_length place.entry.s.now place.entry.at place.entry.end place.entry.descriptor }
 {
-    let after = at + 1;
-    if has_inline_length(descriptor.type_code, descriptor.length_code) {
-        let size = inline_length(descriptor.type_code, descriptor.length_code);
-        return Length::Known { body: after, size };
+    let after = place.at + 1;
+    let descriptor = place.descriptor;
+    if has_inline_length(descriptor) {
+        let size = inline_length(descriptor);
+        return Ok(Length { body: after, size });
     }
-    let code = value_code(descriptor.type_code, descriptor.length_code);
-    match read_length(s, after, end, code) {
-        Length::Known { body, size } => check_length(
-            at,
-            descriptor.type_code,
-            descriptor.length_code,
-            body,
-            size,
-        ),
-        Length::Refused(refusal) => Length::Refused(refusal),
-    }
+    let code = value_code(descriptor);
+    let length = read_length(place.s, after, place.end, code)?;
+    check_length(place.at, descriptor, length)
 }

@@ -4,5 +4,6 @@
 pub mod annotations_iterator;
 mod annotations_wrapper;
 pub mod binary_buffer;
+mod described;
 pub mod encoded_value;
 pub mod limits;

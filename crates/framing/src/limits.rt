@@ -7,11 +7,9 @@ const LEAST_LIMIT: usize = 255;
 const MOST_LIMIT: usize = 65535;
 
 // Whether a limit of annotation bytes is none.
+#[tactic(auto, using(std::proofs::lemmas::Bool::Decides::nat_tests), unfolding(crate::specs::Limits::out_of_range))]
 pub fn out_of_range(limit: usize) -> bool
     ensures { result ≡ out_of_range limit }
 {
-    if limit < LEAST_LIMIT {
-        return true;
-    }
-    MOST_LIMIT < limit
+    limit < LEAST_LIMIT || MOST_LIMIT < limit
 }

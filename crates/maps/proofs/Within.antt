@@ -7,14 +7,14 @@ use mathlib.Core.Bool.{true, false, true≢false}
 use mathlib.Core.List.{List}
 use lib.ListN.{length}
 use lib.Dec.{ltb}
-use Rattle.numbers.specs.Outcome.{refuses, outside_of}
+use Rattle.numbers.specs.Outcome.{Outcome, gives, refuses, outside_of}
 use Rattle.numbers.proofs.Outcomes.{by_test, by_case}
 use Rattle.stepping.specs.Answers.{found, step_of, answer_at}
 use Rattle.stepping.specs.Kinds.{rules_of}
 use Rattle.stepping.specs.declared.cursor.Rules.{Rules}
 use Rattle.framing.specs.Limits.{out_of_range}
 use Rattle.maps.specs.Exported.{exported_step}
-use Rattle.maps.specs.Inside.{inside_of}
+use Rattle.maps.specs.Inside.{inside_of, part_rules}
 
 pub record Inside (s : List ℕ) (start end at kind : ℕ) : Type 0 where
   pub low : start ≤ at
@@ -71,3 +71,33 @@ step_outside limit s start end at kind g h =
     (by_case (ltb end at) (λ o. no_order s at end (ltb-true end at o)) (λ o.
     by_case (ltb (length s) end) (λ f. too_far s at end (ltb-false end at o) (ltb-true (length s) end f)) (λ f.
     absurd (true≢false (sym (le-leb kind 2 (ltb-false 2 kind k)) ∙ (rw (f, o, l) at h)))))))))))
+
+-- ---- by the part's rules
+
+-- where the rules are given, the limit is one, the position is in the part, and they are those of the kind
+pub record Given (limit : ℕ) (s : List ℕ) (start end at kind : ℕ) (rules : Rules) : Type 0 where
+  pub ranged : out_of_range limit ≡ false
+  pub within : Inside s start end at kind
+  pub rules_is : rules ≡ rules_of kind
+
+pub given : (limit : ℕ) (s : List ℕ) (start end at kind : ℕ) (rules : Rules) → part_rules limit s start end at kind ≡ gives rules → Given limit s start end at kind rules
+given limit s start end at kind rules e =
+    by_case (out_of_range limit) (λ g. absurd (let f = rw g at e in cc)) (λ g.
+    by_case (inside_of s start end at kind) (λ i.
+    let f : gives (rules_of kind) ≡ gives rules = rw (g, i) at e in
+    record { ranged = g; within = inside s start end at kind i; rules_is = cc }) (λ i.
+    absurd (let f = rw (g, i) at e in cc)))
+
+-- one refusal, of whatever is asked for
+same_refusal : {A B : Type 0} {n m p q : ℕ} → ◌≡◌ {A = Outcome A} (refuses n p) (refuses m q) → ◌≡◌ {A = Outcome B} (refuses n p) (refuses m q)
+same_refusal {n} {m} {p} {q} e =
+    let number : n ≡ m = cc in
+    let position : p ≡ q = cc in
+    cc
+
+-- where they are not, the exported step is refused alike
+pub not_given : (limit : ℕ) (s : List ℕ) (start end at kind : ℕ) {number position : ℕ} → part_rules limit s start end at kind ≡ refuses number position → exported_step limit s start end at kind ≡ refuses number position
+not_given limit s start end at kind e =
+    by_case (out_of_range limit) (λ g. step_unranged limit s start end at kind g ∙ same_refusal (rw g at e)) (λ g.
+    by_case (inside_of s start end at kind) (λ i. absurd (let f = rw (g, i) at e in cc)) (λ i.
+    step_outside limit s start end at kind g i ∙ same_refusal (rw (g, i) at e)))

@@ -1,253 +1,253 @@
-// Calls of the exported functions: what each returns, and what it leaves in its buffer.
-ghost use Rattle.std.specs.Prelude.{◌≡◌, ◌<◌, ◌≤◌, length};
-
-use crate::{packed_calls, write_calls};
+// Calls of the exported functions: what each returns, and what it leaves in its buffers.
+use crate::arguments::{Limits, Place, buffer, limit, system_text};
+use crate::function::Function;
+use crate::left::{Left, UNTOUCHED};
 use additions::bounded::ion_map_step_bounded;
+use additions::packed::{ion_map_pack, ion_map_packed_size};
 use additions::readings::{ion_map_check, ion_map_decimal, ion_map_ids, ion_map_timestamp};
+use additions::symbol_texts::{ion_map_symbol_text, ion_map_symbols, ion_map_text};
 use batches::steps::ion_map_steps;
 use maps::exports::ion_map_step;
-use questions::text::{Line, number, number_or, part, word};
+use questions::hexadecimal::Hexadecimal;
+use questions::words::Words;
 use readings::exports::{ion_map_annotation, ion_map_number, ion_map_scalar, ion_map_step_in};
-use records::buffer::{RECORD_SIZE, RECORD_WORDS};
+use std::alloc::{AllocError, Global};
 use walking::exports::ion_map_walked;
+use writes::exports::{
+    ion_map_write_bool, ion_map_write_container, ion_map_write_float, ion_map_write_int,
+    ion_map_write_null, ion_map_write_pad, ion_map_write_scalar, ion_map_write_symbol,
+    ion_map_write_wrapper,
+};
 
-// The bytes of a word.
-const WORD_SIZE: usize = RECORD_SIZE / RECORD_WORDS;
+// What a function returns that takes no buffer.
+fn plain(alloc: Global, returned: u64) -> Result<String, AllocError> {
+    format!(in alloc; "{returned}")
+}
 
-// The limits where a line says none.
-const ANNOTATION_LIMIT: usize = 255;
-
-const DEPTH_LIMIT: usize = 32;
-
-// What a byte of a buffer is before the call, and a word of such bytes.
-const FILL: u8 = 0xAA;
-
-const UNTOUCHED: u64 = 0xAAAA_AAAA_AAAA_AAAA;
-
-// Room for the longest buffer that is lent.
-fn room() -> [u8; 1024]
-    ensures { 1024 ≡ length result }
+// Lends a function the buffer for its record: what it returns, and what it leaves there.
+fn lend<F>(alloc: Global, words: &mut Words, call: F) -> Result<String, AllocError>
+where
+    F: FnOnce(&mut [u8], &mut Words) -> u64 + Drop,
+    requires { F.IsAlwaysCallable call }
 {
-    [FILL; 1024]
+    let mut out = buffer(words, alloc)?;
+    let returned = call(&mut out, words);
+    format!(in alloc; "{returned}{}", Left(&out))
 }
 
-// The arguments of a call are the words of its line after the bytes, in the header's order, then the buffer's length, and then the limits, where it has any.
-fn argument(line: &[u8], n: usize) -> usize {
-    number(word(line, n))
+fn both_left(alloc: Global, returned: u64, to: &[u8], out: &[u8]) -> Result<String, AllocError> {
+    format!(in alloc; "{returned} : {}{}", Hexadecimal(to), Left(out))
 }
 
-// Which word has the buffer's length, and 0 where the function takes no buffer.
-fn size_word(asked: &[u8]) -> usize {
-    if write_calls::is_write(asked) {
-        return 2;
-    }
-    match asked {
-        b"walked" | b"ids" => 0,
-        b"check" | b"packed_size" | b"pack" => 2,
-        b"decimal" => 4,
-        b"number" | b"step_bounded" => 7,
-        b"step" | b"steps" | b"text" => 6,
-        _ => 5,
-    }
+// Lends a function the buffer for its record and the one for what it writes: what it returns, and what it leaves there.
+fn lend_both<F>(alloc: Global, words: &mut Words, call: F) -> Result<String, AllocError>
+where
+    F: FnOnce(&mut [u8], &mut [u8], &mut Words) -> u64 + Drop,
+    requires { F.IsAlwaysCallable call }
+{
+    let mut out = buffer(words, alloc)?;
+    let mut to = buffer(words, alloc)?;
+    let returned = call(&mut to, &mut out, words);
+    both_left(alloc, returned, &to, &out)
 }
 
-fn size_of(line: &[u8]) -> usize {
-    let n = size_word(word(line, 0));
-    if n == 0 { 0 } else { argument(line, n) }
-}
-
-// What many steps return, and their count.
-fn steps(
-    line: &[u8],
-    map: &[u8],
-    start: usize,
-    end: usize,
-    position: usize,
-    out: &mut [u8],
-) -> Line {
-    let mut count: u64 = UNTOUCHED;
+// Many steps return a count too.
+fn steps(alloc: Global, map: &[u8], words: &mut Words) -> Result<String, AllocError> {
+    let Place {
+        start,
+        end,
+        position,
+    } = Place::of(words);
+    let kind = words.number();
+    let mut out = buffer(words, alloc)?;
+    let mut count = UNTOUCHED;
     let returned = ion_map_steps(
         map,
         start,
         end,
         position,
-        argument(line, 5) as u64,
-        number_or(line, 7, ANNOTATION_LIMIT),
-        out,
+        kind,
+        limit(words),
+        &mut out,
         &mut count,
     );
-    Line::new().number(returned).number(count)
+    format!(in alloc; "{returned} {count}{}", Left(&out))
 }
 
-// What a bounded step returns.
-fn step_bounded(
-    line: &[u8],
-    map: &[u8],
-    start: usize,
-    end: usize,
-    position: usize,
-    out: &mut [u8],
-) -> Line {
-    Line::new().number(ion_map_step_bounded(
-        map,
-        start,
-        end,
-        position,
-        argument(line, 5) as u64,
-        argument(line, 6),
-        number_or(line, 8, ANNOTATION_LIMIT),
-        out,
-    ))
-}
-
-// The call that a line asks for, with a buffer of the length that it says: what is returned.
-fn called(line: &[u8], map: &[u8], out: &mut [u8]) -> Line {
-    let asked = word(line, 0);
-    let start = argument(line, 2);
-    let end = argument(line, 3);
-    let position = argument(line, 4);
-    match asked {
-        b"step" => {
-            let kind = argument(line, 5);
-            Line::new().number(ion_map_step(
-                map,
-                start,
-                end,
-                position,
-                kind as u64,
-                number_or(line, 7, ANNOTATION_LIMIT),
-                out,
-            ))
-        }
-        b"steps" => steps(line, map, start, end, position, out),
-        b"step_bounded" => step_bounded(line, map, start, end, position, out),
-        b"annotation" => Line::new().number(ion_map_annotation(map, start, end, position, out)),
-        b"step_in" => Line::new().number(ion_map_step_in(
-            map,
-            start,
-            end,
-            position,
-            number_or(line, 6, ANNOTATION_LIMIT),
-            out,
-        )),
-        b"scalar" => Line::new().number(ion_map_scalar(
-            map,
-            start,
-            end,
-            position,
-            number_or(line, 6, ANNOTATION_LIMIT),
-            out,
-        )),
-        b"timestamp" => Line::new().number(ion_map_timestamp(
-            map,
-            start,
-            end,
-            position,
-            number_or(line, 6, ANNOTATION_LIMIT),
-            out,
-        )),
-        b"number" => {
-            let form = argument(line, 5);
-            let size = argument(line, 6);
-            Line::new().number(ion_map_number(map, start, end, position, form as u64, size, out))
-        }
-        b"decimal" => Line::new().number(ion_map_decimal(map, start, end, out)),
-        b"walked" => {
-            let most = start;
-            Line::new().number(ion_map_walked(
-                map,
-                most as u64,
-                number_or(line, 3, ANNOTATION_LIMIT),
-                number_or(line, 4, DEPTH_LIMIT),
-            ))
-        }
-        b"check" => Line::new().number(ion_map_check(
-            map,
-            number_or(line, 3, ANNOTATION_LIMIT),
-            number_or(line, 4, DEPTH_LIMIT),
-            out,
-        )),
-        b"ids" => Line::new().number(ion_map_ids(
-            map,
-            start,
-            end,
-            position,
-            number_or(line, 5, ANNOTATION_LIMIT),
-        )),
-        _ => packed_calls::called(line, map, out),
-    }
-}
-
-// The same with the first `size` bytes of `out` as the buffer; with more than there is room for, no call.
-fn lent(line: &[u8], map: &[u8], out: &mut [u8], size: usize) -> Line {
-    if out.len() < size {
-        return Line::new();
-    }
-    called(line, map, &mut out[..size])
-}
-
-fn wide(b: u8) -> u64 {
-    b as u64
-}
-
-// Bytes as a number, least significant byte first, modulo 2^64.
-fn little_endian(bytes: &[u8]) -> u64 {
-    let mut value: u64 = 0;
-    for byte in bytes.iter().rev() {
-        let higher = value % 0x100_0000_0000_0000 * 256;
-        value = higher.wrapping_add(wide(*byte));
-    }
-    value
-}
-
-// A word of the buffer: `-` where it is as it was, and the bytes of one that is cut short.
-fn word_of(line: Line, bytes: &[u8]) -> Line {
-    if bytes.len() < WORD_SIZE {
-        return line.byte(b' ').hex_bytes(bytes);
-    }
-    let value = little_endian(bytes);
-    if value == UNTOUCHED {
-        return line.word(b"-");
-    }
-    line.number(value)
-}
-
-// A mark where a record begins.
-fn marked(line: Line, at: usize) -> Line {
-    if at % RECORD_SIZE == 0 {
-        line.word(b";")
-    } else {
-        line
-    }
-}
-
-// Where the word at `at` ends, at the buffer's end at the latest.
-fn word_end(at: usize, end: usize) -> usize
-    requires { at < end }
-    ensures { (at < result) × (result ≤ end) }
+// What is read of symbols takes the system text too, whose word stands behind the limit.
+fn lend_system<F>(alloc: Global, words: &mut Words, call: F) -> Result<String, AllocError>
+where
+    F: FnOnce(&[u8], usize, &mut [u8]) -> u64 + Drop,
+    requires { F.IsAlwaysCallable call }
 {
-    if end - at < WORD_SIZE {
-        return end;
-    }
-    at + WORD_SIZE
+    let mut out = buffer(words, alloc)?;
+    let limit = limit(words);
+    let system = system_text(words, alloc)?;
+    let returned = call(&system, limit, &mut out);
+    format!(in alloc; "{returned}{}", Left(&out))
 }
 
-// What is in a buffer.
-fn buffer_words(line: Line, bytes: &[u8]) -> Line {
-    let mut out = line;
-    let mut at = 0;
-    while at < bytes.len() {
-        let end = word_end(at, bytes.len());
-        out = word_of(marked(out, at), part(bytes, at, end));
-        at = end;
-    }
-    out
+// What is written around a value takes its bytes too, whose word stands before the limits.
+fn write_wrapper(
+    alloc: Global,
+    annotations: &[u8],
+    words: &mut Words,
+) -> Result<String, AllocError> {
+    let mut out = buffer(words, alloc)?;
+    let mut to = buffer(words, alloc)?;
+    let value = words.bytes(alloc)?;
+    let Limits { limit, depth } = Limits::of(words);
+    let returned = ion_map_write_wrapper(annotations, &value, limit, depth, &mut to, &mut out);
+    both_left(alloc, returned, &to, &out)
 }
 
-// The answer to a line: what the call returns, and what it leaves in the buffer.
-pub fn answer(line: &[u8], map: &[u8]) -> Line {
-    let mut out = room();
-    let size = size_of(line);
-    let returned = lent(line, map, &mut out, size);
-    buffer_words(returned, part(&out, 0, size))
+// The answer to a line: the function's name without `ion_map_`, the map's or the lent bytes in hexadecimal, and the other arguments.
+pub fn answer(alloc: Global, question: &str) -> Result<String, AllocError> {
+    let words = &mut Words::of(question);
+    let Ok(function) = words.word().unwrap_or("").parse() else {
+        return String::from_str(alloc, "no such function");
+    };
+    let map = words.bytes(alloc)?;
+    match function {
+        Function::Step => {
+            let at = Place::of(words);
+            let kind = words.number();
+            lend(alloc, words, |out, words| {
+                ion_map_step(&map, at.start, at.end, at.position, kind, limit(words), out)
+            })
+        }
+        Function::Steps => steps(alloc, &map, words),
+        Function::StepBounded => {
+            let at = Place::of(words);
+            let kind = words.number();
+            let most = words.number();
+            lend(alloc, words, |out, words| {
+                ion_map_step_bounded(
+                    &map,
+                    at.start,
+                    at.end,
+                    at.position,
+                    kind,
+                    most,
+                    limit(words),
+                    out,
+                )
+            })
+        }
+        Function::Annotation => {
+            let at = Place::of(words);
+            lend(
+                alloc,
+                words,
+                |out, _| ion_map_annotation(&map, at.start, at.end, at.position, out),
+            )
+        }
+        Function::StepIn => {
+            let at = Place::of(words);
+            lend(alloc, words, |out, words| {
+                ion_map_step_in(&map, at.start, at.end, at.position, limit(words), out)
+            })
+        }
+        Function::Scalar => {
+            let at = Place::of(words);
+            lend(alloc, words, |out, words| {
+                ion_map_scalar(&map, at.start, at.end, at.position, limit(words), out)
+            })
+        }
+        Function::Timestamp => {
+            let at = Place::of(words);
+            lend(alloc, words, |out, words| {
+                ion_map_timestamp(&map, at.start, at.end, at.position, limit(words), out)
+            })
+        }
+        Function::Number => {
+            let at = Place::of(words);
+            let form = words.number();
+            let size = words.number();
+            lend(alloc, words, |out, _| {
+                ion_map_number(&map, at.start, at.end, at.position, form, size, out)
+            })
+        }
+        Function::Decimal => {
+            let start = words.number();
+            let end = words.number();
+            lend(
+                alloc,
+                words,
+                |out, _| ion_map_decimal(&map, start, end, out),
+            )
+        }
+        Function::Walked => {
+            let most = words.number();
+            let Limits { limit, depth } = Limits::of(words);
+            plain(alloc, ion_map_walked(&map, most, limit, depth))
+        }
+        Function::Ids => {
+            let at = Place::of(words);
+            plain(
+                alloc,
+                ion_map_ids(&map, at.start, at.end, at.position, limit(words)),
+            )
+        }
+        Function::Check => lend(alloc, words, |out, words| {
+            let Limits { limit, depth } = Limits::of(words);
+            ion_map_check(&map, limit, depth, out)
+        }),
+        Function::Text => {
+            let at = Place::of(words);
+            let id = words.number();
+            lend_system(alloc, words, |system, limit, out| {
+                ion_map_text(&map, system, at.start, at.end, at.position, id, limit, out)
+            })
+        }
+        Function::Symbols => {
+            let at = Place::of(words);
+            lend_system(alloc, words, |system, limit, out| {
+                ion_map_symbols(&map, system, at.start, at.end, at.position, limit, out)
+            })
+        }
+        Function::SymbolText => {
+            let start = words.number();
+            let end = words.number();
+            let id = words.number();
+            lend_system(alloc, words, |system, limit, out| {
+                ion_map_symbol_text(&map, system, start, end, id, limit, out)
+            })
+        }
+        Function::PackedSize => lend(alloc, words, |out, words| {
+            let Limits { limit, depth } = Limits::of(words);
+            ion_map_packed_size(&map, limit, depth, out)
+        }),
+        Function::Pack => lend_both(alloc, words, |to, out, words| {
+            let Limits { limit, depth } = Limits::of(words);
+            ion_map_pack(&map, limit, depth, to, out)
+        }),
+        Function::WriteNull => lend_both(alloc, words, |to, out, words| {
+            ion_map_write_null(words.number(), to, out)
+        }),
+        Function::WriteBool => lend_both(alloc, words, |to, out, words| {
+            ion_map_write_bool(words.number(), to, out)
+        }),
+        Function::WriteInt => lend_both(alloc, words, |to, out, words| {
+            ion_map_write_int(&map, words.number(), to, out)
+        }),
+        Function::WriteFloat => lend_both(alloc, words, |to, out, words| {
+            ion_map_write_float(words.number(), to, out)
+        }),
+        Function::WriteSymbol => lend_both(alloc, words, |to, out, words| {
+            ion_map_write_symbol(words.number(), to, out)
+        }),
+        Function::WriteScalar => lend_both(alloc, words, |to, out, words| {
+            ion_map_write_scalar(words.number(), &map, to, out)
+        }),
+        Function::WriteContainer => lend_both(alloc, words, |to, out, words| {
+            let type_code = words.number();
+            let Limits { limit, depth } = Limits::of(words);
+            ion_map_write_container(type_code, &map, limit, depth, to, out)
+        }),
+        Function::WriteWrapper => write_wrapper(alloc, &map, words),
+        Function::WritePad => lend_both(alloc, words, |to, out, words| {
+            ion_map_write_pad(words.number(), to, out)
+        }),
+    }
 }

@@ -1,9 +1,8 @@
-pub mod Table
 pub mod Outcomes
+pub mod Passing
 pub mod Digits
 pub mod LastByte
 pub mod Grouping
-pub mod Packing
 pub mod Parts
 pub mod Meaning
 pub mod ShortVarUInts

@@ -54,6 +54,10 @@ pub inside_end : (s : List ℕ) (at end : ℕ) → outside_of s at end ≡ false
 unfolding outside_of
 inside_end s at end = by_test (λ b. b ≡ false → end ≤ length s) (ltb end at) (λ _ e. absurd (true≢false e)) (λ _ e. ltb-false (length s) end e)
 
+-- past a test for 50 that is not met, the part is one of the slice
+pub in_part : (s : List ℕ) (at end : ℕ) {t : Bool} → t ≡ outside_of s at end → t ≡ false → (at ≤ end) × (end ≤ length s)
+in_part s at end e h = let k : outside_of s at end ≡ false = sym e ∙ h in (inside_order s at end k, inside_end s at end k)
+
 pub outside_cases : (s : List ℕ) (at end : ℕ) → outside_of s at end ≡ true → (end < at) ⊎ (length s < end)
 unfolding outside_of
 outside_cases s at end =

@@ -4,6 +4,7 @@ pub mod Format
 pub mod Answers
 pub mod ShortVarUInt
 pub mod Descriptor
+pub mod Refusals
 pub mod Read
 pub mod Meaning
 pub mod Private

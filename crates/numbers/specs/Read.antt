@@ -1,33 +1,35 @@
--- What each case of a reading's enum says in the scope paper's terms: its values, or its refusal's number and position.
+-- What each answer of a reading says in the scope paper's terms: its values, or its refusal's number and position.
 -- Assumes nothing.
 use Rattle.numbers.specs.Outcome.{Outcome, gives, refuses}
+use Rattle.std.specs.Prelude.{Option, Some, None, Result, Ok, Err}
 use Rattle.numbers.specs.Answers.{Unsigned, Signed, Fixed}
 use Rattle.numbers.specs.ShortVarUInt.{ShortUnsigned, short, none}
+use Rattle.numbers.specs.Refusals.{number_of}
 use Rattle.numbers.specs.declared.refusal.Refusal.{Refusal}
 use Rattle.numbers.specs.declared.var_uint.VarUInt.{VarUInt}
-use Rattle.numbers.specs.declared.var_uint.VarUInt.TheVariants.{Value as UnsignedValue, Refused as UnsignedRefused}
-use Rattle.numbers.specs.declared.var_uint.ShortVarUInt.{ShortVarUInt}
-use Rattle.numbers.specs.declared.var_uint.ShortVarUInt.TheVariants.{Value as ShortValue, Other as ShortOther}
 use Rattle.numbers.specs.declared.var_int.VarInt.{VarInt}
-use Rattle.numbers.specs.declared.var_int.VarInt.TheVariants.{Value as SignedValue, Refused as SignedRefused}
 use Rattle.numbers.specs.declared.int.Int.{Int}
-use Rattle.numbers.specs.declared.int.Int.TheVariants.{Value as FixedValue, Refused as FixedRefused}
 
 abbrev pub refusal_read : {A : Type 0} → Refusal → Outcome A
-refusal_read e = refuses e.number e.position
+refusal_read e = refuses (number_of e.reason) e.position
 
-abbrev pub var_uint_read : VarUInt → Outcome Unsigned
-var_uint_read (UnsignedValue v n) = gives (record { value = v; next = n })
-var_uint_read (UnsignedRefused e) = refusal_read e
+-- an answer, by what its value says
+abbrev pub outcome : {A B : Type 0} → (A → B) → Result A Refusal → Outcome B
+outcome f (Ok a) = gives (f a)
+outcome f (Err e) = refusal_read e
 
-abbrev pub short_var_uint_read : ShortVarUInt → ShortUnsigned
-short_var_uint_read (ShortValue v n) = short (record { value = v; next = n })
-short_var_uint_read ShortOther = none
+abbrev pub unsigned_read : VarUInt → Unsigned
+unsigned_read n = record { value = n.value; next = n.next }
 
-abbrev pub var_int_read : VarInt → Outcome Signed
-var_int_read (SignedValue m v n) = gives (record { negative = m; magnitude = v; next = n })
-var_int_read (SignedRefused e) = refusal_read e
+abbrev pub var_uint_read : Result VarUInt Refusal → Outcome Unsigned
+var_uint_read = outcome unsigned_read
 
-abbrev pub int_read : Int → Outcome Fixed
-int_read (FixedValue m f r e) = gives (record { negative = m; first = f; rest = r; end = e })
-int_read (FixedRefused e) = refusal_read e
+abbrev pub short_var_uint_read : Option VarUInt → ShortUnsigned
+short_var_uint_read (Some n) = short (unsigned_read n)
+short_var_uint_read None = none
+
+abbrev pub var_int_read : Result VarInt Refusal → Outcome Signed
+var_int_read = outcome (λ n. record { negative = n.negative; magnitude = n.magnitude; next = n.next })
+
+abbrev pub int_read : Result Int Refusal → Outcome Fixed
+int_read = outcome (λ i. record { negative = i.negative; first = i.first; rest = i.rest; end = i.end })

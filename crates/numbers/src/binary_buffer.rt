@@ -1,17 +1,19 @@
 // Reads VarUInts, VarInts and Ints from a part of a slice.
 //
-// Each function reads the part at..end of `s`. Where at ≤ end ≤ the slice's length does not hold it refuses with 50 at 0.
+// Each function reads the part at..end of `s`. Where at ≤ end ≤ the slice's length does not hold it refuses with 50 at 0. The three are parameters and no struct
+// of them, since callers of other languages give them so, and a contract would name a struct's fields where it names `s.now`, `at` and `end`.
 ghost use Rattle.std.specs.Prelude.{◌≡◌, ℕ, ◌+◌, ◌-◌, ◌≤◌, ◌<◌, ◌^◌, length};
 ghost use Rattle.numbers.specs.Outcome.{outside_of};
 ghost use Rattle.numbers.specs.Answers.{most_bytes, var_uint, var_int, int, int_rest};
 ghost use Rattle.numbers.specs.ShortVarUInt.{short_var_uint_of};
-ghost use Rattle.numbers.specs.Read.{var_uint_read, short_var_uint_read, var_int_read, int_read};
+ghost use Rattle.numbers.specs.Refusals.{number_of};
+ghost use Rattle.numbers.specs.Read.{refusal_read, var_uint_read, short_var_uint_read, var_int_read, int_read};
 ghost use Rattle.numbers.specs.Private.Groups.{groups, Begins};
 
 use crate::int::Int;
-use crate::refusal::{INT_CUT, NUMBER_TOO_LONG, OUTSIDE, Refusal, VAR_INT_CUT, VAR_UINT_CUT};
+use crate::refusal::{Reason, Refusal};
 use crate::var_int::VarInt;
-use crate::var_uint::{ShortVarUInt, VarUInt};
+use crate::var_uint::VarUInt;
 
 // The most bytes that a VarUInt or a VarInt may have.
 const MAX_ENCODED_SIZE_IN_BYTES: usize = 9;
@@ -20,71 +22,67 @@ const MAX_ENCODED_SIZE_IN_BYTES: usize = 9;
 pub fn outside(s: &[u8], at: usize, end: usize) -> bool
     ensures { result ≡ outside_of s.now at end }
 {
-    if end < at {
-        return true;
-    }
-    s.len() < end
+    end < at || s.len() < end
 }
 
-fn wide(x: u8) -> usize
-    ensures { result ≡ x }
-{
-    x as usize
-}
-
-fn refused(number: u64, position: usize) -> VarUInt
-    ensures { result ≡ VarUInt.Refused (record { number = number; position = position }) }
-{
-    VarUInt::Refused(Refusal { number, position })
-}
-
-// The answer to a number that began at `from` and has nine bytes or more before `at`: too long where its last byte is
-// in at..end, cut short where it is not.
-fn read_past_limit(s: &[u8], from: usize, at: usize, end: usize, cut: u64) -> VarUInt
+// The refusal of a number that began at `from` and has nine bytes or more before `at`: too long where its last byte is in at..end, cut short where it is not.
+fn past_limit(s: &[u8], from: usize, at: usize, end: usize, cut: Reason) -> Refusal
     requires { (from + most_bytes ≤ at) × (at ≤ end) × (end ≤ length s.now) }
-    ensures { (v : ℕ) → var_uint_read result ≡ groups cut v s.now from at end }
+    ensures { (v : ℕ) → refusal_read result ≡ groups (number_of cut) v s.now from at end }
 {
-    let mut i = at;
-    while i < end {
+    for i in at..end {
         if 128 <= s[i] {
-            return refused(NUMBER_TOO_LONG, from);
+            return Refusal {
+                reason: Reason::NumberTooLong,
+                position: from,
+            };
         }
-        i += 1;
     }
-    refused(cut, end)
+    Refusal {
+        reason: cut,
+        position: end,
+    }
 }
 
 // A number that began at `from`: what its bytes before `at` are worth is `first`, and groups of seven bits follow from
-// `at` on. `cut` is the refusal where the last byte is missing.
-fn read_groups(s: &[u8], from: usize, at: usize, end: usize, first: usize, cut: u64) -> VarUInt
+// `at` on. `cut` is the refusal where the last byte is missing. Few numbers are so long: in its callers' place it would keep the short ones from being read in
+// place.
+#[inline(never)]
+fn read_groups(
+    s: &[u8],
+    from: usize,
+    at: usize,
+    end: usize,
+    first: usize,
+    cut: Reason,
+) -> Result<VarUInt, Refusal>
     requires { (from ≤ at) × (at ≤ end) × (end ≤ length s.now) × (first < 128 ^ (at - from)) }
-    ensures { var_uint_read result ≡ groups cut first s.now from at end }
+    ensures { var_uint_read result ≡ groups (number_of cut) first s.now from at end }
 {
     let mut value = first;
-    let mut i = at;
-    while i < end {
+    for i in at..end {
         if MAX_ENCODED_SIZE_IN_BYTES <= i - from {
-            return read_past_limit(s, from, i, end, cut);
+            return Err(past_limit(s, from, i, end, cut));
         }
-        let byte = wide(s[i]);
-        let next = i + 1;
-        let grown = value * 128 + byte % 128;
+        let byte = usize::from(s[i]);
+        value = value * 128 + byte % 128;
         if 128 <= byte {
-            return VarUInt::Value { value: grown, next };
+            return Ok(VarUInt { value, next: i + 1 });
         }
-        value = grown;
-        i = next;
     }
-    refused(cut, end)
+    Err(Refusal {
+        reason: cut,
+        position: end,
+    })
 }
 
-// The first bytes of a VarUInt, three at most.
+// The first bytes of a VarUInt, three at most. Each of the three cases tells something: an Option of two of them would be no plainer.
 #[derive(Clone, Copy)]
 enum FirstBytes {
-    // They are all of it: what it is worth, and where it ends.
-    All { value: usize, next: usize },
+    // They are all of it.
+    All(VarUInt),
     // None of them is its last: what they are worth, and where it goes on.
-    More { value: usize, next: usize },
+    More(VarUInt),
     // No part of the slice is asked for.
     Outside,
 }
@@ -98,150 +96,143 @@ fn read_first_bytes(s: &[u8], at: usize, end: usize) -> FirstBytes
     }
     if end <= at {
         if at == end {
-            return FirstBytes::More { value: 0, next: at };
+            return FirstBytes::More(VarUInt { value: 0, next: at });
         }
         return FirstBytes::Outside;
     }
-    let first = wide(s[at]);
+    let first = usize::from(s[at]);
     let after = at + 1;
     if 128 <= first {
-        return FirstBytes::All {
+        return FirstBytes::All(VarUInt {
             value: first % 128,
             next: after,
-        };
+        });
     }
     if end <= after {
-        return FirstBytes::More {
+        return FirstBytes::More(VarUInt {
             value: first,
             next: after,
-        };
+        });
     }
-    let second = wide(s[after]);
+    let second = usize::from(s[after]);
     let past = after + 1;
     let two = first * 128 + second % 128;
     if 128 <= second {
-        return FirstBytes::All {
+        return FirstBytes::All(VarUInt {
             value: two,
             next: past,
-        };
+        });
     }
     if end <= past {
-        return FirstBytes::More {
+        return FirstBytes::More(VarUInt {
             value: two,
             next: past,
-        };
+        });
     }
-    let third = wide(s[past]);
+    let third = usize::from(s[past]);
     let next = past + 1;
     let three = two * 128 + third % 128;
     if 128 <= third {
-        return FirstBytes::All { value: three, next };
+        return FirstBytes::All(VarUInt { value: three, next });
     }
-    FirstBytes::More { value: three, next }
+    FirstBytes::More(VarUInt { value: three, next })
 }
 
 // Reads a VarUInt of three bytes at most: most lengths and field IDs have no more.
-pub fn short_var_uint(s: &[u8], at: usize, end: usize) -> ShortVarUInt
+pub fn short_var_uint(s: &[u8], at: usize, end: usize) -> Option<VarUInt>
     ensures { short_var_uint_read result ≡ short_var_uint_of at (var_uint s.now at end) }
 {
     match read_first_bytes(s, at, end) {
-        FirstBytes::All { value, next } => ShortVarUInt::Value { value, next },
-        FirstBytes::More { value: _, next: _ } => ShortVarUInt::Other,
-        FirstBytes::Outside => ShortVarUInt::Other,
+        FirstBytes::All(number) => Some(number),
+        FirstBytes::More(_) => None,
+        FirstBytes::Outside => None,
     }
 }
 
-// Reads a VarUInt as `read_var_uint_slow` does, a short one in place.
-pub fn read_var_uint(s: &[u8], at: usize, end: usize) -> VarUInt
+// Reads a VarUInt, a short one in place.
+pub fn read_var_uint(s: &[u8], at: usize, end: usize) -> Result<VarUInt, Refusal>
     ensures { var_uint_read result ≡ var_uint s.now at end }
 {
     match read_first_bytes(s, at, end) {
-        FirstBytes::All { value, next } => VarUInt::Value { value, next },
-        FirstBytes::More { value, next } => read_groups(s, at, next, end, value, VAR_UINT_CUT),
-        FirstBytes::Outside => refused(OUTSIDE, 0),
+        FirstBytes::All(number) => Ok(number),
+        FirstBytes::More(first) => {
+            read_groups(s, at, first.next, end, first.value, Reason::VarUIntCut)
+        }
+        FirstBytes::Outside => Err(Refusal {
+            reason: Reason::Outside,
+            position: 0,
+        }),
     }
-}
-
-// Reads a VarUInt.
-pub fn read_var_uint_slow(s: &[u8], at: usize, end: usize) -> VarUInt
-    ensures { var_uint_read result ≡ var_uint s.now at end }
-{
-    if outside(s, at, end) {
-        return refused(OUTSIDE, 0);
-    }
-    read_groups(s, at, at, end, 0, VAR_UINT_CUT)
 }
 
 // Reads a VarInt.
-pub fn read_var_int(s: &[u8], at: usize, end: usize) -> VarInt
+pub fn read_var_int(s: &[u8], at: usize, end: usize) -> Result<VarInt, Refusal>
     ensures { var_int_read result ≡ var_int s.now at end }
 {
     if outside(s, at, end) {
-        return VarInt::Refused(Refusal {
-            number: OUTSIDE,
+        return Err(Refusal {
+            reason: Reason::Outside,
             position: 0,
         });
     }
     if at == end {
-        return VarInt::Refused(Refusal {
-            number: VAR_INT_CUT,
+        return Err(Refusal {
+            reason: Reason::VarIntCut,
             position: end,
         });
     }
-    let byte = wide(s[at]);
-    let second = at + 1;
+    let byte = usize::from(s[at]);
+    let next = at + 1;
     let negative = byte / 64 % 2 == 1;
-    let first = byte % 64;
+    let magnitude = byte % 64;
     if 128 <= byte {
-        return VarInt::Value {
+        return Ok(VarInt {
             negative,
-            magnitude: first,
-            next: second,
-        };
-    }
-    match read_groups(s, at, second, end, first, VAR_INT_CUT) {
-        VarUInt::Value { value, next } => VarInt::Value {
-            negative,
-            magnitude: value,
+            magnitude,
             next,
-        },
-        VarUInt::Refused(refusal) => VarInt::Refused(refusal),
+        });
     }
+    let number = read_groups(s, at, next, end, magnitude, Reason::VarIntCut)?;
+    Ok(VarInt {
+        negative,
+        magnitude: number.value,
+        next: number.next,
+    })
 }
 
 // Reads the first `length` bytes as an Int.
-pub fn read_int(s: &[u8], at: usize, end: usize, length: usize) -> Int
+pub fn read_int(s: &[u8], at: usize, end: usize, length: usize) -> Result<Int, Refusal>
     ensures { int_read result ≡ int s.now at end length }
 {
     if outside(s, at, end) {
-        return Int::Refused(Refusal {
-            number: OUTSIDE,
+        return Err(Refusal {
+            reason: Reason::Outside,
             position: 0,
         });
     }
     if length == 0 {
-        return Int::Value {
+        return Ok(Int {
             negative: false,
             first: 0,
             rest: at,
             end: at,
-        };
+        });
     }
     if end - at < length {
-        return Int::Refused(Refusal {
-            number: INT_CUT,
+        return Err(Refusal {
+            reason: Reason::IntCut,
             position: at,
         });
     }
     let byte = s[at];
     let rest = at + 1;
     let after = at + length;
-    Int::Value {
+    Ok(Int {
         negative: 128 <= byte,
         first: byte % 128,
         rest,
         end: after,
-    }
+    })
 }
 
 // The bytes of that Int after its first one, as a part of the slice: empty where `read_int` refuses.
@@ -249,12 +240,7 @@ pub fn read_int_rest(s: &[u8], at: usize, end: usize, length: usize) -> &[u8]
     ensures { result.now ≡ int_rest s.now at end length }
 {
     match read_int(s, at, end, length) {
-        Int::Value {
-            negative: _,
-            first: _,
-            rest,
-            end: after,
-        } => &s[rest..after],
-        Int::Refused(_) => &s[..0],
+        Ok(int) => &s[int.rest..int.end],
+        Err(_) => &s[..0],
     }
 }

@@ -43,7 +43,7 @@ part_short limit s rules hi at h = (part_packs limit s rules hi at h).short
 
 module _ (limit : ℕ) (s : List ℕ) (v : Spans) (h : v.end ≤ length s) where
   -- a container's body and a scalar's
-  pub held_body : is_container v ≡ true → body_bytes limit s v ≡ bytes_at limit s (body_rules v) v.end v.body
+  held_body : is_container v ≡ true → body_bytes limit s v ≡ bytes_at limit s (body_rules v) v.end v.body
   unfolding body_bytes
   held_body c = rw c
 
@@ -104,6 +104,13 @@ module _ (limit : ℕ) (s : List ℕ) (v : Spans) (h : v.end ≤ length s) where
     where
       adds : (l start from x end a : ℕ) → l ≡ start - from + x → x ≤ end - a → start ≡ a → from ≤ a → a ≤ end → l ≤ end - from
       adds l start from x end a p q r c d = omega arith
+
+-- a container's part, packed, is its body
+pub part_bytes : (limit : ℕ) (s : List ℕ) (v : Spans) (rules : Rules) → v.end ≤ length s → is_container v ≡ true → rules ≡ body_rules v → bytes_at limit s rules v.end v.body ≡ body_bytes limit s v
+part_bytes limit s v rules w i r = ap (λ (x : Rules). bytes_at limit s x v.end v.body) r ∙ sym (held_body limit s v w i)
+
+pub held : (limit : ℕ) (s : List ℕ) (v : Spans) (rules : Rules) (n : ℕ) → v.end ≤ length s → is_container v ≡ true → rules ≡ body_rules v → n ≡ length (bytes_at limit s rules v.end v.body) → n ≡ length (body_bytes limit s v)
+held limit s v rules n w i r e = e ∙ ap length (part_bytes limit s v rules w i r)
 
 -- by itself, wherever it was met
 pub handed_alone : {limit : ℕ} {s : List ℕ} {at hi from : ℕ} {v : Spans} → HandedOut limit s at hi from v → HandedOut limit s from (length s) from v

@@ -2,6 +2,7 @@
 -- Assumes nothing.
 use Prim.Native.Nat.{ℕ, zero, suc, ◌-◌, ◌≤◌, ◌<◌}
 use native.Mathlib.Omega.{arith}
+use Rattle.std.specs.Prelude.{Option, Some, None}
 use mathlib.Core.Path.{◌≡◌, refl, ◌∙◌, sym, ap}
 use mathlib.Core.List.{List, [], ◌∷◌, ◌++◌}
 use lib.ListN.{length}
@@ -18,10 +19,10 @@ use Rattle.values.specs.Scalars.{is_container, body_rules}
 use Rattle.packing.specs.Tree.{Tree, nothing, mark, bytes_of}
 use Rattle.packing.specs.Packed.{node_of, tree_on, tree_in, tree_of, packed}
 use Rattle.framing.specs.Read.{spans_of}
-use Rattle.framing.specs.declared.encoded_value.EncodedValue.{EncodedValue}
-use Rattle.packing.specs.Private.Items.{tree_at, bytes_at, body_bytes, value_bytes, tree_met, HandedOut}
+use Rattle.packing.specs.Private.Items.{tree_at, bytes_at, body_bytes, value_bytes, tree_met, Meets, HandedOut}
+use Rattle.packing.specs.declared.size.Entry.{Entry}
 use Rattle.packing.specs.declared.size.Met.{Met}
-use Rattle.packing.specs.declared.size.Met.TheVariants.{Over, Marker, Value}
+use Rattle.packing.specs.declared.size.Met.TheVariants.{Marker, Value}
 use Rattle.packing.proofs.ReadBack.{over}
 use Rattle.packing.proofs.Twice.{unranged}
 use Rattle.packing.proofs.Places.{Lies, answer_lies}
@@ -82,19 +83,19 @@ whole_bytes limit s = let z : length s - 0 ≡ length s = omega arith in rw z
 
 -- ---- behind what a step meets, in bytes
 
-module _ (limit : ℕ) (s : List ℕ) (rules : Rules) (hi at : ℕ) (l : at ≤ hi) (k : hi ≤ length s) (u : Met) (e : tree_on s (tree_at limit s) (tree_at limit s rules hi) (answer_at limit rules s at hi) ≡ tree_met s (tree_at limit s) (tree_at limit s rules hi) u) where
-  pub met_bytes : bytes_at limit s rules hi at ≡ bytes_of (tree_met s (tree_at limit s) (tree_at limit s rules hi) u)
+module _ (limit : ℕ) (s : List ℕ) (rules : Rules) (hi at : ℕ) (l : at ≤ hi) (k : hi ≤ length s) where
+  met_bytes : (u : Option Met) → Meets limit s rules hi at u → bytes_at limit s rules hi at ≡ bytes_of (tree_met s (tree_at limit s) (tree_at limit s rules hi) u)
   unfolding bytes_at
-  met_bytes = ap bytes_of (unrolled limit s rules hi at l k ∙ e)
+  met_bytes u e = ap bytes_of (unrolled limit s rules hi at l k ∙ e (tree_at limit s) (tree_at limit s rules hi))
 
-pub over_bytes : (limit : ℕ) (s : List ℕ) (rules : Rules) (hi : ℕ) → bytes_of (tree_met s (tree_at limit s) (tree_at limit s rules hi) Over) ≡ []
-unfolding bytes_of
-over_bytes limit s rules hi = refl
+  pub end_met : Meets limit s rules hi at None → bytes_at limit s rules hi at ≡ []
+  unfolding bytes_of
+  end_met e = met_bytes None e
 
-pub past_bytes : (limit : ℕ) (s : List ℕ) (rules : Rules) (hi x y e : ℕ) → bytes_of (tree_met s (tree_at limit s) (tree_at limit s rules hi) (Marker x y e)) ≡ (224 ∷ x ∷ y ∷ 234 ∷ []) ++ bytes_at limit s rules hi e
-unfolding bytes_at
-past_bytes limit s rules hi x y e = marker_bytes limit s x y (tree_at limit s rules hi e)
+  pub marker_met : (x y z : ℕ) → Meets limit s rules hi at (Some (Marker x y z)) → bytes_at limit s rules hi at ≡ (224 ∷ x ∷ y ∷ 234 ∷ []) ++ bytes_at limit s rules hi z
+  unfolding bytes_at
+  marker_met x y z e = met_bytes (Some (Marker x y z)) e ∙ marker_bytes limit s x y (tree_at limit s rules hi z)
 
-pub behind_bytes : (limit : ℕ) (s : List ℕ) (rules : Rules) (hi from : ℕ) (v : EncodedValue) → bytes_of (tree_met s (tree_at limit s) (tree_at limit s rules hi) (Value from v)) ≡ value_bytes limit s from (spans_of v) ++ bytes_at limit s rules hi v.end
-unfolding bytes_at
-behind_bytes limit s rules hi from v = node_bytes limit s from (spans_of v) (tree_at limit s rules hi v.end)
+  pub value_met : (x : Entry) → Meets limit s rules hi at (Some (Value x)) → bytes_at limit s rules hi at ≡ value_bytes limit s x.from (spans_of x.value) ++ bytes_at limit s rules hi x.value.end
+  unfolding bytes_at
+  value_met x e = met_bytes (Some (Value x)) e ∙ node_bytes limit s x.from (spans_of x.value) (tree_at limit s rules hi x.value.end)

@@ -1,11 +1,9 @@
--- What each case of an enum of this layer says in the papers' terms.
+-- What the answer to packing says in the papers' terms: how many bytes the packed map has, or why there is none.
 -- Assumes nothing.
-use Rattle.std.specs.Prelude.{ℕ}
-use Rattle.numbers.specs.Outcome.{Outcome, gives}
-use Rattle.numbers.specs.Read.{refusal_read}
-use Rattle.packing.specs.declared.size.PackedSize.{PackedSize}
-use Rattle.packing.specs.declared.size.PackedSize.TheVariants.{Bytes, Refused}
+use Rattle.std.specs.Prelude.{ℕ, Result}
+use Rattle.numbers.specs.Outcome.{Outcome}
+use Rattle.numbers.specs.Read.{outcome}
+use Rattle.numbers.specs.declared.refusal.Refusal.{Refusal}
 
-abbrev pub size_read : PackedSize → Outcome ℕ
-size_read (Bytes n) = gives n
-size_read (Refused e) = refusal_read e
+abbrev pub size_read : Result ℕ Refusal → Outcome ℕ
+size_read = outcome (λ n. n)

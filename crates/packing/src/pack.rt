@@ -5,21 +5,20 @@ ghost use Rattle.std.specs.Prelude.{◌≡◌, [], ◌∷◌, ◌+◌, ◌-◌, 
 ghost use Rattle.std.proofs.lemmas.List.Edits.{sets};
 ghost use Rattle.numbers.specs.Bytes.{part};
 ghost use Rattle.framing.specs.Read.{spans_of};
-ghost use Rattle.packing.specs.Tree.{header_of, kept_byte, written};
+ghost use Rattle.packing.specs.Tree.{header_of, written};
 ghost use Rattle.packing.specs.Packed.{head_of};
 ghost use Rattle.packing.specs.Answers.{pack_of, buffer_of};
 ghost use Rattle.packing.specs.Read.{size_read};
-ghost use Rattle.packing.specs.Private.Sizes.{wrap_size, value_size};
-ghost use Rattle.packing.specs.Private.Items.{bytes_at, value_bytes, PlacedAt, HandedOut};
+ghost use Rattle.packing.specs.Private.Sizes.{wrap_size};
+ghost use Rattle.packing.specs.Private.Items.{bytes_at, value_bytes, PlacedAt, HandedOut, entry_size};
 ghost use Rattle.packing.specs.Private.Fronts.{wrap_front, front_of};
 
 use crate::size::{
-    MARKER, Met, ORDERED, PackedSize, body_rules, header_size, kept_byte, lengthless, meet,
-    packed_size, part_size,
+    Entry, MARKER, Met, ORDERED, body_rules, header_size, kept_byte, lengthless, meet, packed_size,
+    part_size,
 };
 use encoding::put::{head_size, put_byte, put_bytes, put_head, put_var_uint, var_uint_size};
-use framing::encoded_value::EncodedValue;
-use numbers::refusal::{NO_ROOM_TO_PACK, Refusal};
+use numbers::refusal::{Reason, Refusal};
 use stepping::cursor::Rules;
 use values::value::is_container;
 
@@ -73,22 +72,16 @@ fn put_wrap(s: &[u8], out: &mut [u8], to: usize, start: usize, end: usize, n: us
     annotations + size
 }
 
-// Puts what goes before the body, of `n` bytes, of a value that begins at `from`: its field ID, its annotations, its descriptor and its length. The position
-// behind it.
-fn put_front(
-    s: &[u8],
-    out: &mut [u8],
-    to: usize,
-    from: usize,
-    value: EncodedValue,
-    n: usize,
-) -> usize
-    requires { (from ≤ value.start) × (value.start ≤ value.annotations) × (value.annotations ≤ value.descriptor) × (value.descriptor ≤ length s.now) × (to + value_size (value.start - from) (value.descriptor - value.annotations) (kept_byte value.byte n) n ≤ length out.old) }
-    ensures out_after { out.new ≡ sets out.old to (front_of (head_of s.now (part s.now from value.start) (spans_of value) n) n) }
-    ensures n_value { result + n ≡ to + value_size (value.start - from) (value.descriptor - value.annotations) (kept_byte value.byte n) n }
+// Puts what goes before the body, of `n` bytes, of a value: its field ID, its annotations, its descriptor and its length. The position behind it.
+fn put_front(s: &[u8], out: &mut [u8], to: usize, entry: Entry, n: usize) -> usize
+    requires { (entry.from ≤ entry.value.start) × (entry.value.start ≤ entry.value.annotations) × (entry.value.annotations ≤ entry.value.descriptor) × (entry.value.descriptor ≤ length s.now) × (to + entry_size entry n ≤ length out.old) }
+    ensures out_after { out.new ≡ sets out.old to (front_of (head_of s.now (part s.now entry.from entry.value.start) (spans_of entry.value) n) n) }
+    ensures n_value { result + n ≡ to + entry_size entry n }
 {
+    let value = entry.value;
     let byte = kept_byte(value.byte, n);
     let header = header_size(byte, n);
+    let from = entry.from;
     let start = value.start;
     put_bytes(out, to, &s[from..start]);
     let named = to + (start - from);
@@ -121,9 +114,8 @@ fn pack_part(
 {
     let mut from = at;
     let mut next = to;
-    loop {
-        match meet(s, rules, from, end, limit) {
-            Met::Over => return next,
+    while let Some(met) = meet(s, rules, from, end, limit) {
+        match met {
             Met::Marker {
                 major,
                 minor,
@@ -133,66 +125,57 @@ fn pack_part(
                 next += MARKER;
                 from = past;
             }
-            Met::Value { from: start, value } => {
-                next = pack_value(s, out, next, start, value, limit);
-                from = value.end;
+            Met::Value(entry) => {
+                next = pack_value(s, out, next, entry, limit);
+                from = entry.value.end;
             }
         }
     }
+    next
 }
 
-// Packs a value that begins at `from`. The position behind it.
+// Packs a value with its field ID. The position behind it.
 #[cycle(pack_part_pack_value)]
-fn pack_value(
-    s: &[u8],
-    out: &mut [u8],
-    to: usize,
-    from: usize,
-    value: EncodedValue,
-    limit: usize,
-) -> usize
-    requires { HandedOut limit s.now from (length s.now) from (spans_of value) × (to + length (value_bytes limit s.now from (spans_of value)) ≤ length out.old) }
-    ensures out_after { out.new ≡ sets out.old to (value_bytes limit s.now from (spans_of value)) }
-    ensures value { result ≡ to + length (value_bytes limit s.now from (spans_of value)) }
+fn pack_value(s: &[u8], out: &mut [u8], to: usize, entry: Entry, limit: usize) -> usize
+    requires { HandedOut limit s.now entry.from (length s.now) entry.from (spans_of entry.value) × (to + length (value_bytes limit s.now entry.from (spans_of entry.value)) ≤ length out.old) }
+    ensures out_after { out.new ≡ sets out.old to (value_bytes limit s.now entry.from (spans_of entry.value)) }
+    ensures value { result ≡ to + length (value_bytes limit s.now entry.from (spans_of entry.value)) }
 {
+    let value = entry.value;
     if is_container(value) {
         let rules = body_rules(value);
         let n = part_size(s, rules, value.body, value.end, limit);
-        let body = put_front(s, out, to, from, value, n);
+        let body = put_front(s, out, to, entry, n);
         return pack_part(s, out, body, rules, value.body, value.end, limit);
     }
-    put_scalar(s, out, to, from, value)
+    put_scalar(s, out, to, entry)
 }
 
-// Packs a value that is no container.
-fn put_scalar(s: &[u8], out: &mut [u8], to: usize, from: usize, value: EncodedValue) -> usize
-    requires { PlacedAt s.now from (length s.now) from (spans_of value) × (to + value_size (value.start - from) (value.descriptor - value.annotations) (kept_byte value.byte (value.end - value.body)) (value.end - value.body) ≤ length out.old) }
-    ensures out_after { out.new ≡ sets out.old to (written (head_of s.now (part s.now from value.start) (spans_of value) (value.end - value.body)) (part s.now value.body value.end)) }
-    ensures value { result ≡ to + value_size (value.start - from) (value.descriptor - value.annotations) (kept_byte value.byte (value.end - value.body)) (value.end - value.body) }
+// Packs a value that is no container. The position behind it.
+fn put_scalar(s: &[u8], out: &mut [u8], to: usize, entry: Entry) -> usize
+    requires { PlacedAt s.now entry.from (length s.now) entry.from (spans_of entry.value) × (to + entry_size entry (entry.value.end - entry.value.body) ≤ length out.old) }
+    ensures out_after { out.new ≡ sets out.old to (written (head_of s.now (part s.now entry.from entry.value.start) (spans_of entry.value) (entry.value.end - entry.value.body)) (part s.now entry.value.body entry.value.end)) }
+    ensures value { result ≡ to + entry_size entry (entry.value.end - entry.value.body) }
 {
-    let start = value.body;
-    let end = value.end;
-    let body = put_front(s, out, to, from, value, end - start);
+    let start = entry.value.body;
+    let end = entry.value.end;
+    let body = put_front(s, out, to, entry, end - start);
     put_bytes(out, body, &s[start..end]);
     body + (end - start)
 }
 
 // Packs a map that is accepted into the buffer, where it fits.
-pub fn pack(s: &[u8], limit: usize, deepest: usize, out: &mut [u8]) -> PackedSize
+pub fn pack(s: &[u8], limit: usize, deepest: usize, out: &mut [u8]) -> Result<usize, Refusal>
     ensures result_value { size_read result ≡ pack_of limit deepest s.now (length out.old) }
     ensures out_after { out.new ≡ buffer_of limit deepest s.now out.old }
 {
-    match packed_size(s, limit, deepest) {
-        PackedSize::Bytes(n) => {
-            if out.len() < n {
-                return PackedSize::Refused(Refusal {
-                    number: NO_ROOM_TO_PACK,
-                    position: n,
-                });
-            }
-            pack_part(s, out, 0, Rules::Stream, 0, s.len(), limit);
-            PackedSize::Bytes(n)
-        }
-        PackedSize::Refused(refusal) => PackedSize::Refused(refusal),
+    let n = packed_size(s, limit, deepest)?;
+    if out.len() < n {
+        return Err(Refusal {
+            reason: Reason::NoRoomToPack,
+            position: n,
+        });
     }
+    pack_part(s, out, 0, Rules::Stream, 0, s.len(), limit);
+    Ok(n)
 }

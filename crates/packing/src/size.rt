@@ -1,40 +1,34 @@
 // How many bytes a map has once it is packed. Nothing is written.
 //
 // `limit` is the most bytes that a value's annotations may have, `deepest` the depth at which a container is too deep.
-ghost use Rattle.std.specs.Prelude.{◌≡◌, false, List, ℕ, ◌+◌, ◌-◌, ◌≤◌, ◌<◌, ◌^◌, length};
-ghost use Rattle.framing.specs.Limits.{out_of_range};
+ghost use Rattle.std.specs.Prelude.{◌≡◌, ◌≤◌, ◌<◌, ◌^◌, length};
 ghost use Rattle.framing.specs.Read.{spans_of};
-ghost use Rattle.stepping.specs.Answers.{answer_at};
-ghost use Rattle.stepping.specs.declared.cursor.Rules.{Rules};
 ghost use Rattle.values.specs.Scalars.{body_rules};
-ghost use Rattle.packing.specs.Tree.{Tree, lengthless, kept_byte};
-ghost use Rattle.packing.specs.Packed.{tree_on};
+ghost use Rattle.packing.specs.Tree.{lengthless, kept_byte};
 ghost use Rattle.packing.specs.Answers.{size_of};
 ghost use Rattle.packing.specs.Read.{size_read};
-ghost use Rattle.packing.specs.Private.Sizes.{header_size, wrap_size, value_size};
-ghost use Rattle.packing.specs.Private.Items.{bytes_at, body_bytes, value_bytes, tree_met, PlacedAt, HandedOut, MetFits};
+ghost use Rattle.packing.specs.Private.Sizes.{header_size, wrap_size};
+ghost use Rattle.packing.specs.Private.Items.{bytes_at, value_bytes, Meets, HandedOut, MetFits, entry_size};
 
 use checking::check::check_map;
-use checking::item::Verdict;
 use encoding::put::{head_size, var_uint_size};
 use framing::encoded_value::EncodedValue;
 use numbers::refusal::Refusal;
 use stepping::cursor::{Item, Rules, item_at};
 use values::value::is_container;
 
-// The answer: a packed map's size.
+// A value that is met, and where it begins with its field ID, which it has in a struct.
 #[derive(Clone, Copy)]
-pub enum PackedSize {
-    Bytes(usize),
-    Refused(Refusal),
+pub(crate) struct Entry {
+    pub from: usize,
+    pub value: EncodedValue,
 }
 
-// What a step meets: the part's end, a marker, or a value that begins at `from`, with its field ID in a struct.
+// What a step meets.
 #[derive(Clone, Copy)]
 pub(crate) enum Met {
-    Over,
     Marker { major: u8, minor: u8, end: usize },
-    Value { from: usize, value: EncodedValue },
+    Value(Entry),
 }
 
 // The descriptor of an ordered struct, and of an empty one.
@@ -42,17 +36,18 @@ pub(crate) const ORDERED: u8 = 0xD1;
 
 const EMPTY_STRUCT: u8 = 0xD0;
 
+// The type code of a struct.
+const STRUCT: u8 = 13;
+
 // The bytes of a marker.
 pub(crate) const MARKER: usize = 4;
 
 // Whether no length stands in a descriptor: those of nulls and bools.
+#[tactic(auto, unfolding(crate::specs::Tree::lengthless))]
 pub(crate) fn lengthless(byte: u8) -> bool
     ensures { result ≡ lengthless byte }
 {
-    if byte / 16 < 2 {
-        return true;
-    }
-    byte % 16 == 15
+    byte / 16 < 2 || byte % 16 == 15
 }
 
 // A descriptor without its length, of a value whose body then has `n` bytes.
@@ -96,34 +91,31 @@ pub(crate) fn wrap_size(annotations: usize, n: usize) -> usize
     head_size(wrapped) + wrapped
 }
 
-// What the step at `at` meets.
-pub(crate) fn meet(s: &[u8], rules: Rules, at: usize, end: usize, limit: usize) -> Met
+// What the step at `at` meets. At the part's end nothing.
+pub(crate) fn meet(s: &[u8], rules: Rules, at: usize, end: usize, limit: usize) -> Option<Met>
     requires { (at ≤ end) × (end ≤ length s.now) }
-    ensures meets { (inside : Rules → ℕ → ℕ → Tree) (onward : ℕ → Tree) → tree_on s.now inside onward (answer_at limit rules s.now at end) ≡ tree_met s.now inside onward result }
+    ensures meets { Meets limit s.now rules end at result }
     ensures fits { MetFits limit s.now at end result }
 {
     match item_at(rules, s, at, end, limit) {
-        Item::End { position: _ } => Met::Over,
-        Item::Marker {
-            start: _,
+        Ok(
+            Item::Marker {
+                major,
+                minor,
+                end: past,
+                ..
+            },
+        ) => Some(Met::Marker {
             major,
             minor,
             end: past,
-        } => Met::Marker {
-            major,
-            minor,
-            end: past,
-        },
-        Item::Value(value) => Met::Value {
+        }),
+        Ok(Item::Value(value)) => Some(Met::Value(Entry {
             from: value.start,
             value,
-        },
-        Item::Field {
-            id: _,
-            start,
-            value,
-        } => Met::Value { from: start, value },
-        Item::Refused(_) => Met::Over,
+        })),
+        Ok(Item::Field { start, value, .. }) => Some(Met::Value(Entry { from: start, value })),
+        Ok(Item::End { .. }) | Err(_) => None,
     }
 }
 
@@ -131,22 +123,24 @@ pub(crate) fn meet(s: &[u8], rules: Rules, at: usize, end: usize, limit: usize) 
 pub(crate) fn body_rules(value: EncodedValue) -> Rules
     ensures { result ≡ body_rules (spans_of value) }
 {
-    if value.byte / 16 == 13 {
+    if value.byte / 16 == STRUCT {
         return Rules::Fields;
     }
     Rules::Sequence
 }
 
-// How many bytes a value takes that begins at `from`, once its body has `n` bytes.
-pub(crate) fn framed_size(from: usize, value: EncodedValue, n: usize) -> usize
-    requires { (from ≤ value.start) × (value.annotations ≤ value.descriptor) × (value_size (value.start - from) (value.descriptor - value.annotations) (kept_byte value.byte n) n < 2 ^ 64) }
-    ensures { result ≡ value_size (value.start - from) (value.descriptor - value.annotations) (kept_byte value.byte n) n }
+// How many bytes a value takes with its field ID, once its body has `n` bytes.
+pub(crate) fn framed_size(entry: Entry, n: usize) -> usize
+    requires { (entry.from ≤ entry.value.start) × (entry.value.annotations ≤ entry.value.descriptor) × (entry_size entry n < 2 ^ 64) }
+    ensures { result ≡ entry_size entry n }
 {
+    let value = entry.value;
     let size = header_size(kept_byte(value.byte, n), n) + n;
-    (value.start - from) + wrap_size(value.descriptor - value.annotations, size)
+    (value.start - entry.from) + wrap_size(value.descriptor - value.annotations, size)
 }
 
-// How many bytes the part at..end takes.
+// How many bytes the part at..end takes. This walk and that of `pack_part` stay two: a container's size is needed before its body is put, while a size adds up
+// what is inside as it goes. One walk over a sink would walk each inside twice to get a size, at every depth again.
 #[cycle(part_size_value_size)]
 pub(crate) fn part_size(s: &[u8], rules: Rules, at: usize, end: usize, limit: usize) -> usize
     requires { (at ≤ end) × (end ≤ length s.now) }
@@ -154,47 +148,39 @@ pub(crate) fn part_size(s: &[u8], rules: Rules, at: usize, end: usize, limit: us
 {
     let mut from = at;
     let mut size = 0;
-    loop {
-        match meet(s, rules, from, end, limit) {
-            Met::Over => return size,
-            Met::Marker {
-                major: _,
-                minor: _,
-                end: past,
-            } => {
+    while let Some(met) = meet(s, rules, from, end, limit) {
+        match met {
+            Met::Marker { end: past, .. } => {
                 size += MARKER;
                 from = past;
             }
-            Met::Value { from: start, value } => {
-                let more = value_size(s, start, value, limit);
-                size += more;
-                from = value.end;
+            Met::Value(entry) => {
+                size += value_size(s, entry, limit);
+                from = entry.value.end;
             }
         }
     }
+    size
 }
 
-// How many bytes a value takes that begins at `from`.
+// How many bytes a value takes with its field ID.
 #[cycle(part_size_value_size)]
-fn value_size(s: &[u8], from: usize, value: EncodedValue, limit: usize) -> usize
-    requires { HandedOut limit s.now from (length s.now) from (spans_of value) }
-    ensures { result ≡ length (value_bytes limit s.now from (spans_of value)) }
+fn value_size(s: &[u8], entry: Entry, limit: usize) -> usize
+    requires { HandedOut limit s.now entry.from (length s.now) entry.from (spans_of entry.value) }
+    ensures { result ≡ length (value_bytes limit s.now entry.from (spans_of entry.value)) }
 {
+    let value = entry.value;
     if is_container(value) {
         let n = part_size(s, body_rules(value), value.body, value.end, limit);
-        return framed_size(from, value, n);
+        return framed_size(entry, n);
     }
-    framed_size(from, value, value.end - value.body)
+    framed_size(entry, value.end - value.body)
 }
 
 // How many bytes a map has once it is packed.
-pub fn packed_size(s: &[u8], limit: usize, deepest: usize) -> PackedSize
+pub fn packed_size(s: &[u8], limit: usize, deepest: usize) -> Result<usize, Refusal>
     ensures { size_read result ≡ size_of limit deepest s.now }
 {
-    let checked = check_map(s, limit, deepest);
-    let verdict = checked.verdict;
-    match verdict {
-        Verdict::Accepted => { PackedSize::Bytes(part_size(s, Rules::Stream, 0, s.len(), limit)) }
-        Verdict::Refused(refusal) => PackedSize::Refused(refusal),
-    }
+    check_map(s, limit, deepest)?;
+    Ok(part_size(s, Rules::Stream, 0, s.len(), limit))
 }

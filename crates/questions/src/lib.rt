@@ -3,4 +3,5 @@
 #![tactic(auto)]
 
 pub mod comparing;
-pub mod text;
+pub mod hexadecimal;
+pub mod words;

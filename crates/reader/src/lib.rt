@@ -8,48 +8,46 @@ ghost use Rattle.stepping.specs.Read.{step_read};
 ghost use Rattle.reader.specs.Reading.{step_through};
 
 use framing::limits::out_of_range;
-use numbers::refusal::{LIMIT_OUT_OF_RANGE, OUTSIDE, Refusal};
-use stepping::cursor::{Cursor, Item, LAST_KIND, Step};
+use numbers::refusal::{Reason, Refusal};
+use stepping::cursor::{Cursor, NoSuchKind, Rules, Step};
 
 #[derive(Clone, Copy)]
 pub struct Reader<'a> {
     pub map: &'a [u8],
     pub at: usize,
     pub end: usize,
+    // A number as callers have it, also where no part has that kind: the step refuses it then.
     pub kind: u64,
     pub limit: usize,
 }
 
 // The step at `at` in a part that ends at `end`, by the part's kind: 0 a stream, 1 the body of a list or a sexp, 2 the body of a struct.
+#[tactic(auto, unfolding(crate::specs::Reading::step_through))]
 pub fn step_through(map: &[u8], at: usize, end: usize, kind: u64, limit: usize) -> Step
     ensures { step_read result ≡ step_through limit map.now at end kind }
 {
     let cursor = Cursor { at, end };
     if out_of_range(limit) {
         return Step {
-            item: Item::Refused(Refusal {
-                number: LIMIT_OUT_OF_RANGE,
+            item: Err(Refusal {
+                reason: Reason::LimitOutOfRange,
                 position: 0,
             }),
             next: cursor,
         };
     }
-    if LAST_KIND < kind {
-        return Step {
-            item: Item::Refused(Refusal {
-                number: OUTSIDE,
+    match Rules::try_from(kind) {
+        Ok(Rules::Stream) => cursor.next_in_stream(map, limit),
+        Ok(Rules::Sequence) => cursor.next_in_sequence(map, limit),
+        Ok(Rules::Fields) => cursor.next_in_struct(map, limit),
+        Err(NoSuchKind) => Step {
+            item: Err(Refusal {
+                reason: Reason::Outside,
                 position: 0,
             }),
             next: cursor,
-        };
+        },
     }
-    if kind == 0 {
-        return cursor.next_in_stream(map, limit);
-    }
-    if kind == 1 {
-        return cursor.next_in_sequence(map, limit);
-    }
-    cursor.next_in_struct(map, limit)
 }
 
 // A reader of the part at..end.
@@ -76,13 +74,7 @@ pub fn next<'a>(r: Reader<'a>) -> Step
 pub fn moved<'a>(r: Reader<'a>, at: usize) -> Reader<'a>
     ensures { (result.map ≡ r.entry.map) × (result.at ≡ at) × (result.end ≡ r.entry.end) × (result.kind ≡ r.entry.kind) × (result.limit ≡ r.entry.limit) }
 {
-    Reader {
-        map: r.map,
-        at,
-        end: r.end,
-        kind: r.kind,
-        limit: r.limit,
-    }
+    Reader { at, ..r }
 }
 
 // The first item of a part, by a reader: plain parameters, so that its callers need no walk.

@@ -11,7 +11,7 @@ use Rattle.framing.specs.Answers.{Annotated, ident, finished}
 use Rattle.stepping.specs.Items.{Item, finish, marker, value, field}
 use Rattle.values.specs.Scalars.{ReadValue, Scalar, span_of}
 use Rattle.framing.specs.Spans.{Spans}
-use Rattle.records.specs.Buffer.{word_size, bytes_of, record_size, record_in}
+use Rattle.records.specs.Buffer.{word_size, bytes_of, record_size, words_in}
 use Rattle.records.specs.FirstWords.{Entered, Number}
 use Rattle.records.specs.FirstWords as first
 use Rattle.records.specs.Words.{with_length, item_length, words, annotation_words, body_words, scalar_words, reading_words, number_words}
@@ -32,7 +32,7 @@ begins ws n e rest =
     ∙ take-append_seam (bytes_of ws) (bytes_of (n ∷ []) ++ rest)
 
 in_buffer : (ws vs : List ℕ) → Begins ws vs → BeginsWith ws vs
-unfolding record_in
+unfolding words_in
 in_buffer ws vs b old h = rw (le-ltb (length old) record_size h) (b (drop record_size old))
 
 pub step_begins : (o : Outcome Item) → Begins (words o) (first.words o)

@@ -1,11 +1,12 @@
 -- The number that a record tells is that of its answer: a refusal's, and 0 of whatever else.
 -- Assumes nothing.
-use Prim.Native.Nat.{ℕ}
-use mathlib.Core.Path.{◌≡◌, refl, ap}
+use Prim.Native.Nat.{ℕ, ◌*◌}
+use mathlib.Core.Path.{◌≡◌, refl, ◌∙◌, ap}
 use mathlib.Core.List.{List}
 use lib.ListN.{length}
-use lib.Dec.{ltb}
+use lib.Dec.{eqb, ltb}
 use Rattle.numbers.specs.Outcome.{Outcome, gives, refuses, and_then, pick}
+use Rattle.numbers.proofs.Outcomes.{by_case}
 use Rattle.framing.specs.Spans.{Spans}
 use Rattle.framing.specs.Answers.{Annotated, ident, finished}
 use Rattle.bodies.specs.Decimal.{Split}
@@ -13,8 +14,8 @@ use Rattle.stepping.specs.Items.{Item, finish, marker, value, field}
 use Rattle.values.specs.Scalars.{value_in, Opened, opened, Scalar, scalar_of, read_scalar, with_value, read_with_value}
 use Rattle.values.specs.Timestamps.{Dated, stamped, other}
 use Rattle.records.specs.FirstWords.{entered_at, enter, Number}
-use Rattle.records.specs.Words.{words, annotation_words, body_words, scalar_words, reading_words, number_words, decimal_words, timestamp_words, check_words}
-use Rattle.records.specs.Buffer.{record_size, number_of, returned, number_in, returned_by, check_size, check_returned, check_returned_by}
+use Rattle.records.specs.Words.{words, annotation_words, body_words, scalar_words, reading_words, number_words, decimal_words, timestamp_words, check_words, bytes_words}
+use Rattle.records.specs.Buffer.{word_size, number_of, answered, number_in, words_in, words_returned}
 
 pub step_number : (o : Outcome Item) → number_in (words o) ≡ number_of o
 unfolding number_in
@@ -70,16 +71,24 @@ timestamp_number (gives (stamped d t)) = refl
 timestamp_number (gives (other v x)) = refl
 timestamp_number (refuses n p) = refl
 
--- what a call that puts an answer's words returns
-pub returned-by : {A : Type 0} (ws old : List ℕ) (o : Outcome A) → number_in ws ≡ number_of o → returned_by ws old ≡ returned old o
-unfolding returned_by returned
-returned-by ws old o e = ap (λ (n : ℕ). pick (ltb (length old) record_size) 51 n) e
-
 pub check-number : (o : Outcome (List ℕ)) → number_in (check_words o) ≡ number_of o
 unfolding number_in
 check-number (gives c) = refl
 check-number (refuses n p) = refl
 
-pub check-returned : {A : Type 0} (ws old : List ℕ) (o : Outcome A) → number_in ws ≡ number_of o → check_returned_by ws old ≡ check_returned old o
-unfolding check_returned_by check_returned
-check-returned ws old o e = ap (pick (ltb (length old) check_size) 51) e
+pub bytes_number : (kind : ℕ) (o : Outcome ℕ) → number_in (bytes_words kind o) ≡ number_of o
+unfolding number_in
+bytes_number kind (gives n) = by_case (eqb kind 9) (λ e. rw e) (λ e. rw e)
+bytes_number kind (refuses n p) = refl
+
+-- what a call that puts an answer's words returns
+pub returned-by : {A : Type 0} (n : ℕ) (ws old : List ℕ) (o : Outcome A) → number_in ws ≡ number_of o → words_returned n ws old ≡ answered n old o
+unfolding words_returned answered
+returned-by n ws old o e = ap (pick (ltb (length old) (n * word_size)) 51) e
+
+-- the same of a call that puts an answer's words, whatever they are called
+pub put_answer : {A : Type 0} (n : ℕ) (vs old : List ℕ) (o : Outcome A) {r : ℕ} {new ws : List ℕ} → number_in vs ≡ number_of o → ws ≡ vs → record { value : r ≡ words_returned n ws old; out_after : new ≡ words_in n ws old } → record { value : r ≡ answered n old o; out_after : new ≡ words_in n vs old }
+put_answer n vs old o k e h = record {
+  value = h.value ∙ ap (λ (w : List ℕ). words_returned n w old) e ∙ returned-by n vs old o k;
+  out_after = h.out_after ∙ ap (λ (w : List ℕ). words_in n w old) e;
+}

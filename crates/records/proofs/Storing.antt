@@ -1,21 +1,16 @@
 -- Lists stored in a buffer one after the other.
 -- Assumes nothing.
-use Prim.Native.Nat.{ℕ, zero, suc, ◌+◌, ◌*◌, ◌/◌, ◌≤◌, ◌<◌}
+use Prim.Native.Nat.{ℕ, zero, suc, ◌+◌, ◌*◌, ◌/◌, ◌%◌, ◌^◌, ◌<◌}
 use native.Mathlib.Omega.{arith}
-use native.Mathlib.Nat.{add-zero}
-use native.Mathlib.Numerals.{add-one}
-use borrow.Author.Tests.{le-ltb}
+use native.Mathlib.Nat as nat
+use native.Mathlib.Numerals.{unary_clauses}
 use mathlib.Core.Path.{◌≡◌, refl, ◌∙◌, sym, ap}
 use mathlib.Core.List.{List, [], ◌∷◌, ◌++◌, append_assoc}
-use lib.ListN.{length, get_or, set, drop, length-append, drop_of_length-le}
-use lib.Seq.{sets, sets-eq, drop-cons}
-use Rattle.records.specs.Buffer.{little_endian, word_size, bytes_of, record_words, record_size, record_in, check_size, check_in}
-
-pub sets_append : (l : List ℕ) (i : ℕ) (a b : List ℕ) → sets l i (a ++ b) ≡ sets (sets l i a) (i + length a) b
-sets_append l i [] b = rw (add-zero i)
-sets_append l i (x ∷ a) b =
-    let e : suc i + length a ≡ i + length (x ∷ a) = omega arith in
-    sets_append (set l i x) (suc i) a b ∙ ap (λ (k : ℕ). sets (sets (set l i x) (suc i) a) k b) e
+use lib.ListN.{length, get_or, take, drop, length-append}
+use borrow.Rule.Slice.PartMut.{put_mid}
+use Rattle.std.specs.Int.{w64, to_le_bytes, bytes_low_first}
+use Rattle.std.proofs.lemmas.List.{take_more, take_at, drop_at, drop-drop, append-nil, length-take-le}
+use Rattle.records.specs.Buffer.{little_endian, word_size, bytes_of}
 
 pub length_little : (n x : ℕ) → length (little_endian n x) ≡ n
 unfolding little_endian
@@ -32,37 +27,27 @@ bytes_append [] vs = refl
 bytes_append (w ∷ ws) vs =
     ap (λ (l : List ℕ). little_endian word_size w ++ l) (bytes_append ws vs) ∙ sym (append_assoc (little_endian word_size w) (bytes_of ws) (bytes_of vs))
 
--- the first word stored, and those behind it
-pub sets_word : (l : List ℕ) (i w : ℕ) (ws : List ℕ) → sets (sets l i (little_endian word_size w)) (i + word_size) (bytes_of ws) ≡ sets l i (bytes_of (w ∷ ws))
-sets_word l i w ws =
-    sym (sets_append l i (little_endian word_size w) (bytes_of ws) ∙ ap (λ (k : ℕ). sets (sets l i (little_endian word_size w)) (i + k) (bytes_of ws)) (length_little word_size w))
+-- the library's bytes of a number from byte i on are those of what is left of it there
+bytes_from : (i n x : ℕ) → bytes_low_first (suc i) n x ≡ little_endian n (x / 256 ^ suc i)
+unfolding little_endian
+bytes_from i zero x = refl
+bytes_from i (suc n) x =
+    let e : x / 256 ^ suc (suc i) ≡ x / 256 ^ suc i / 256 = simp unary_clauses (sym (nat.div-div-eq-div-mul x (256 ^ i * 256) 256)) in
+    ap (λ (l : List ℕ). x / 256 ^ suc i % 256 ∷ l) (bytes_from (suc i) n x ∙ ap (little_endian n) e)
 
--- the next of some words stored, and those behind it
-pub next_word : (l ws : List ℕ) (at i : ℕ) → i < length ws → sets (sets l (at + i * word_size) (little_endian word_size (get_or ws i 0))) (at + (i + 1) * word_size) (bytes_of (drop (i + 1) ws)) ≡ sets l (at + i * word_size) (bytes_of (drop i ws))
-next_word l ws at i h =
-    let e : at + (i + 1) * word_size ≡ at + i * word_size + word_size = omega arith in
-    rw (e, add-one i, drop-cons ws i 0 h) (sets_word l (at + i * word_size) (get_or ws i 0) (drop (suc i) ws))
+pub little_is : (x : ℕ) → to_le_bytes w64 x ≡ little_endian word_size x
+unfolding little_endian
+little_is x = ap (λ (l : List ℕ). x % 256 ∷ l) (bytes_from 0 7 x)
 
--- the words of a record stored at the buffer's start are the record
-pub record_is : (ws old : List ℕ) → length ws ≡ record_words → record_size ≤ length old → sets old 0 (bytes_of ws) ≡ record_in ws old
-unfolding record_in
-record_is ws old e h =
-    let n : length (bytes_of ws) ≡ record_size = omega (arith, length_bytes ws) in
-    let m : 0 + length (bytes_of ws) ≡ record_size = omega arith in
-    rw (le-ltb (length old) record_size h) (sets-eq (bytes_of ws) old 0 (omega arith) ∙ ap (λ (k : ℕ). bytes_of ws ++ drop k old) m)
-
-pub check_is : (ws old : List ℕ) → length ws ≡ 16 → check_size ≤ length old → sets old 0 (bytes_of ws) ≡ check_in ws old
-unfolding check_in
-check_is ws old e h =
-    let m : 0 + length (bytes_of ws) ≡ check_size = omega (arith, length_bytes ws) in
-    rw (le-ltb (length old) check_size h) (sets-eq (bytes_of ws) old 0 (omega arith) ∙ ap (λ (k : ℕ). bytes_of ws ++ drop k old) m)
-
--- n elements from the index i on, one by one
-abbrev pub elements : ℕ → ℕ → List ℕ → List ℕ
-elements zero i l = []
-elements (suc n) i l = get_or l i 0 ∷ elements n (suc i) l
-
-pub all_elements : (n i : ℕ) (l : List ℕ) → i + n ≡ length l → elements n i l ≡ drop i l
-all_elements zero i l e = sym (drop_of_length-le l {i = i} (omega arith))
-all_elements (suc n) i l e =
-    ap (λ (r : List ℕ). get_or l i 0 ∷ r) (all_elements n (suc i) l (omega arith)) ∙ sym (drop-cons l i 0 (omega arith))
+-- one more word behind those so far, over what the buffer held
+pub next_word : (ws old xs ys : List ℕ) (i k : ℕ) → i < length ws → k ≡ word_size → xs ≡ bytes_of (take i ws) ++ drop (i * word_size) old → ys ≡ little_endian word_size (get_or ws i 0)
+    → put_mid (i * word_size) k xs ys ≡ bytes_of (take (i + 1) ws) ++ drop ((i + 1) * word_size) old
+next_word ws old xs ys i k h kk e w =
+    let a = i * word_size in
+    let front = bytes_of (take i ws) in
+    let long : length front ≡ a = omega (arith, length_bytes (take i ws), length-take-le i ws (omega arith)) in
+    let b : take a xs ≡ front = ap (take a) e ∙ take_at front (drop a old) a long in
+    let c : drop k (drop a xs) ≡ drop ((i + 1) * word_size) old = ap (λ (l : List ℕ). drop k (drop a l)) e ∙ ap (drop k) (drop_at front (drop a old) a long) ∙ drop-drop k a old ∙ ap (λ (n : ℕ). drop n old) (omega arith) in
+    let more : bytes_of (take (i + 1) ws) ≡ front ++ ys =
+    ap bytes_of (take_more ws i 0 h) ∙ bytes_append (take i ws) (get_or ws i 0 ∷ []) ∙ ap (λ (l : List ℕ). front ++ l) (append-nil _ ∙ sym w) in
+    rw (more, b, c) (sym (append_assoc front ys (drop ((i + 1) * word_size) old)))

@@ -58,6 +58,12 @@ bare_words rules start id byte at body end size =
 abbrev pub more_words : ℕ → ℕ → List ℕ
 more_words pads position = 4 ∷ pads ∷ position ∷ 0 ∷ 0 ∷ 0 ∷ 0 ∷ 0 ∷ 0 ∷ []
 
+-- ---- a number of bytes, of the change requests A.11 to A.13: a kind, 0, 0, the number, zeros
+
+abbrev pub bytes_words : ℕ → Outcome ℕ → List ℕ
+bytes_words kind (gives n) = kind ∷ 0 ∷ 0 ∷ n ∷ 0 ∷ 0 ∷ 0 ∷ 0 ∷ 0 ∷ []
+bytes_words kind (refuses number position) = refused_words number position
+
 -- ---- the annotation step: 0
 
 abbrev pub annotation_words : ℕ → Outcome Annotated → List ℕ

@@ -1,65 +1,47 @@
 // The bytes of a record, and putting it into a lent buffer.
-ghost use Rattle.std.specs.Prelude.{◌≡◌, ◌+◌, ◌*◌, ◌≤◌, length};
-ghost use Rattle.std.proofs.lemmas.List.Edits.{sets};
-ghost use Rattle.records.specs.Buffer.{little_endian, word_size, bytes_of, record_in, number_in, returned_by};
+ghost use Rattle.std.specs.Prelude.{◌≡◌, ◌*◌, ◌≤◌, ◌++◌, length, drop};
+ghost use Rattle.records.specs.Buffer.{word_size, bytes_of, number_in, words_in, words_returned};
 
-use numbers::refusal::RECORD_TOO_SHORT;
+use crate::kind::RecordKind;
+use numbers::refusal::Reason;
 
 // The words of a record, the bytes of a word, and those of a record.
 pub const RECORD_WORDS: usize = 9;
 
-pub(crate) const WORD_SIZE: usize = 8;
+const WORD_SIZE: usize = 8;
 
 pub const RECORD_SIZE: usize = RECORD_WORDS * WORD_SIZE;
 
-// The first word of a refusal's record.
-pub const REFUSED: u64 = 9;
-
-// The bytes of a word from `at` on, the least significant first.
-fn put_word(out: &mut [u8], at: usize, word: u64)
-    requires { at + word_size ≤ length out.old }
-    ensures { out.new ≡ sets out.old at (little_endian word_size word) }
+// Puts words at the buffer's start, each with its least significant byte first.
+fn put_words(out: &mut [u8], words: &[u64])
+    requires { length words.now * word_size ≤ length out.old }
+    ensures { out.new ≡ bytes_of words.now ++ drop (length words.now * word_size) out.old }
 {
-    let end = at + WORD_SIZE;
-    let mut left = word;
-    let mut i = at;
-    while i < end {
-        out[i] = (left % 256) as u8;
-        left = left / 256;
-        i = i + 1;
-    }
-}
-
-// The words of a record from `at` on.
-pub(crate) fn put_words(out: &mut [u8], at: usize, words: &[u64])
-    requires { at + length words.now * word_size ≤ length out.old }
-    ensures { out.new ≡ sets out.old at (bytes_of words.now) }
-{
-    let mut i = 0;
-    while i < words.len() {
-        put_word(out, at + i * WORD_SIZE, words[i]);
-        i = i + 1;
+    for (i, word) in words.iter().enumerate() {
+        let at = i * WORD_SIZE;
+        out[at..at + WORD_SIZE].copy_from_slice(&word.to_le_bytes());
     }
 }
 
 // The number that a record tells: a refusal's, else 0.
-fn number_in(words: [u64; RECORD_WORDS]) -> u64
-    ensures { result ≡ number_in words }
+fn number_in(words: &[u64]) -> u64
+    ensures { result ≡ number_in words.now }
 {
-    if words[0] == REFUSED {
-        return words[1];
+    match words {
+        [kind, number, ..] if *kind == RecordKind::Refused as u64 => *number,
+        _ => 0,
     }
-    0
 }
 
-// Puts a record at the buffer's start. Returns 51 where there is no room for it, and nothing is written; else 0, or the number of the refusal that the record is.
-pub fn put_record(out: &mut [u8], words: [u64; RECORD_WORDS]) -> u64
-    ensures value { result ≡ returned_by words out.old }
-    ensures out_after { out.new ≡ record_in words out.old }
+// Puts a record at the buffer's start. Returns 51 where there is no room for it, and nothing is written; else 0, or the number of the refusal that the record
+// is.
+pub fn put_record<const N: usize>(out: &mut [u8], words: [u64; N]) -> u64
+    ensures value { result ≡ words_returned N words.entry out.old }
+    ensures out_after { out.new ≡ words_in N words.entry out.old }
 {
-    if out.len() < RECORD_SIZE {
-        return RECORD_TOO_SHORT;
+    if out.len() < N * WORD_SIZE {
+        return Reason::RecordTooShort.number();
     }
-    put_words(out, 0, &words);
-    number_in(words)
+    put_words(out, &words);
+    number_in(&words)
 }

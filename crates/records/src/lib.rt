@@ -3,5 +3,7 @@
 
 pub mod buffer;
 pub mod check_record;
+pub mod kind;
+pub mod number;
 pub mod symbol_words;
 pub mod words;

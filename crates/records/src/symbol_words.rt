@@ -1,60 +1,64 @@
 // The words of the records of symbols: a text, and the list of the table that rules.
 ghost use Rattle.std.specs.Prelude.{◌≡◌};
 ghost use Rattle.symbols.specs.Read.{symbols_read, text_read};
+ghost use Rattle.records.specs.Kinds.{kind_word};
 ghost use Rattle.records.specs.SymbolWords.{span_words, text_words, symbols_words};
 
 use crate::buffer::RECORD_WORDS;
+use crate::kind::RecordKind;
 use crate::words::{refused_words, size_of};
-use symbols::symbols::{OwnList, SymbolText, Symbols};
+use numbers::refusal::Refusal;
+use symbols::symbols::SymbolText;
+use values::value::Span;
 
-const TEXT: u64 = 13;
+// Where a text lies: word 1 of its record.
+#[derive(Clone, Copy)]
+enum Lies {
+    Nowhere = 0,
+    InTheMap = 1,
+    InTheSystem = 2,
+}
 
-const SYMBOLS: u64 = 19;
+const NO_SPAN: Span = Span { start: 0, end: 0 };
 
 // The words of a span.
-fn span_words(kind: u64, what: u64, start: usize, end: usize, id: usize) -> [u64; RECORD_WORDS]
-    ensures { result ≡ span_words kind what start end id }
+fn span_words(kind: RecordKind, what: u64, span: Span, id: usize) -> [u64; RECORD_WORDS]
+    ensures { result ≡ span_words (kind_word kind) what span.start span.end id }
 {
     [
-        kind,
+        kind as u64,
         what,
         0,
         0,
         0,
-        start as u64,
-        end as u64,
+        span.start as u64,
+        span.end as u64,
         id as u64,
-        size_of(start, end),
+        size_of(span.start, span.end),
     ]
 }
 
 // The words of an ID's text.
-pub fn text_words(id: usize, text: SymbolText) -> [u64; RECORD_WORDS]
+pub fn text_words(id: usize, text: Result<SymbolText, Refusal>) -> [u64; RECORD_WORDS]
     ensures { result ≡ text_words id (text_read text) }
 {
     match text {
-        SymbolText::Unknown => span_words(TEXT, 0, 0, 0, id),
-        SymbolText::Own { start, end } => span_words(TEXT, 1, start, end, id),
-        SymbolText::System { start, end } => span_words(TEXT, 2, start, end, id),
-        SymbolText::Refused(refusal) => refused_words(refusal),
+        Ok(SymbolText::Unknown) => span_words(RecordKind::Text, Lies::Nowhere as u64, NO_SPAN, id),
+        Ok(SymbolText::Own(span)) => span_words(RecordKind::Text, Lies::InTheMap as u64, span, id),
+        Ok(SymbolText::System(span)) => {
+            span_words(RecordKind::Text, Lies::InTheSystem as u64, span, id)
+        }
+        Err(refusal) => refused_words(refusal),
     }
 }
 
-fn list_words(list: OwnList) -> [u64; RECORD_WORDS]
-    ensures { result ≡ symbols_words (symbols_read (Symbols.Of list)) }
+// The words of the list of the table that rules. Word 1 is whether there is one.
+pub fn symbols_words(list: Result<Option<Span>, Refusal>) -> [u64; RECORD_WORDS]
+    ensures { result ≡ symbols_words (symbols_read list) }
 {
     match list {
-        OwnList::NoList => span_words(SYMBOLS, 0, 0, 0, 0),
-        OwnList::List { start, end } => span_words(SYMBOLS, 1, start, end, 0),
-    }
-}
-
-// The words of the list of the table that rules.
-pub fn symbols_words(symbols: Symbols) -> [u64; RECORD_WORDS]
-    ensures { result ≡ symbols_words (symbols_read symbols) }
-{
-    match symbols {
-        Symbols::Of(list) => list_words(list),
-        Symbols::Refused(refusal) => refused_words(refusal),
+        Ok(None) => span_words(RecordKind::Symbols, u64::from(false), NO_SPAN, 0),
+        Ok(Some(span)) => span_words(RecordKind::Symbols, u64::from(true), span, 0),
+        Err(refusal) => refused_words(refusal),
     }
 }

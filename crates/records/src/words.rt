@@ -1,45 +1,47 @@
 // The words of each kind of record.
-ghost use Rattle.std.specs.Prelude.{◌≡◌, ◌-◌, [], ◌∷◌};
-ghost use Rattle.numbers.specs.Outcome.{and_then};
+ghost use Rattle.std.specs.Prelude.{◌≡◌, ◌+◌, ◌-◌, [], ◌∷◌};
+ghost use Rattle.numbers.specs.Outcome.{and_then, gives};
+ghost use Rattle.numbers.specs.Read.{outcome};
+ghost use Rattle.numbers.specs.Refusals.{number_of};
 ghost use Rattle.framing.specs.Read.{annotation_read, spans_of};
 ghost use Rattle.bodies.specs.Decimal.{decimal_read};
-ghost use Rattle.stepping.specs.Read.{item_read};
+ghost use Rattle.stepping.specs.Read.{places_of};
 ghost use Rattle.values.specs.Read.{body_read, scalar_read, dated_read};
-ghost use Rattle.records.specs.FirstWords.{entered_at, one_if};
-ghost use Rattle.records.specs.Words.{words, value_kind, bare_words, value_words, end_words, more_words, refused_words, annotation_words, body_words, scalar_words, decimal_words, fields_word, stamp_words, timestamp_words};
+ghost use Rattle.records.specs.FirstWords.{entered_at};
+ghost use Rattle.records.specs.Read.{number_read};
+ghost use Rattle.records.specs.Kinds.{kind_word, what_word};
+ghost use Rattle.records.specs.Words.{words, value_kind, bare_words, value_words, end_words, more_words, refused_words, bytes_words, annotation_words, body_words, scalar_words, number_words, decimal_words, fields_word, stamp_words, timestamp_words};
 
-use crate::buffer::{RECORD_WORDS, REFUSED};
+use crate::buffer::RECORD_WORDS;
+use crate::kind::RecordKind;
+use crate::number::Number;
 use bodies::decimal::Decimal;
 use framing::annotations_iterator::Annotation;
-use framing::encoded_value::EncodedValue;
-use numbers::refusal::{OUTSIDE, Refusal};
-use stepping::cursor::{Item, Rules, part_kind};
+use framing::encoded_value::{EncodedValue, Length};
+use numbers::refusal::{Reason, Refusal};
+use stepping::cursor::{Item, Name, Rules};
 use timestamps::timestamp::Stamp;
-use values::value::{Body, Scalar, TimestampRead};
-
-fn wide(x: u8) -> u64
-    ensures { result ≡ x }
-{
-    x as u64
-}
+use values::value::{Body, Scalar, Span, TimestampRead};
 
 // How many bytes start..end has: none where its end stands before its start.
 pub fn size_of(start: usize, end: usize) -> u64
     ensures { result ≡ end - start }
 {
-    if end < start {
-        return 0;
-    }
-    (end - start) as u64
+    end.saturating_sub(start) as u64
 }
 
 // The words of a value or a field.
-fn value_words(kind: u64, start: usize, value: EncodedValue, id: usize) -> [u64; RECORD_WORDS]
-    ensures { result ≡ value_words kind start (spans_of value) id }
+fn value_words(
+    kind: RecordKind,
+    start: usize,
+    value: EncodedValue,
+    id: usize,
+) -> [u64; RECORD_WORDS]
+    ensures { result ≡ value_words (kind_word kind) start (spans_of value) id }
 {
     [
-        kind,
-        wide(value.byte),
+        kind as u64,
+        u64::from(value.byte),
         start as u64,
         value.annotations as u64,
         value.descriptor as u64,
@@ -51,39 +53,36 @@ fn value_words(kind: u64, start: usize, value: EncodedValue, id: usize) -> [u64;
 }
 
 // The kind of a value's record, by the rules of its part.
-fn value_kind(rules: Rules) -> u64
-    ensures { result ≡ value_kind rules }
+fn value_kind(rules: Rules) -> RecordKind
+    ensures { kind_word result ≡ value_kind rules }
 {
     match rules {
-        Rules::Stream => 2,
-        Rules::Sequence => 2,
-        Rules::Fields => 3,
+        Rules::Stream | Rules::Sequence => RecordKind::Value,
+        Rules::Fields => RecordKind::Field,
     }
 }
 
-// The words of a value without a wrapper whose descriptor is this byte at `at`, behind its name: its body is body..end, of `size` bytes.
+// The words of a value without a wrapper that ends at `end`, behind its name, which begins at `start`: its descriptor is this byte.
 pub fn bare_words(
     rules: Rules,
     start: usize,
-    id: usize,
+    name: Name,
     byte: u8,
-    at: usize,
-    body: usize,
+    length: Length,
     end: usize,
-    size: usize,
 ) -> [u64; RECORD_WORDS]
-    ensures { result ≡ bare_words rules start id byte at body end size }
+    ensures { result ≡ bare_words rules start name.id byte name.next length.body end length.size }
 {
     [
-        value_kind(rules),
-        wide(byte),
+        value_kind(rules) as u64,
+        u64::from(byte),
         start as u64,
-        at as u64,
-        at as u64,
-        body as u64,
+        name.next as u64,
+        name.next as u64,
+        length.body as u64,
         end as u64,
-        id as u64,
-        size as u64,
+        name.id as u64,
+        length.size as u64,
     ]
 }
 
@@ -91,12 +90,12 @@ pub fn bare_words(
 pub fn end_words(position: usize) -> [u64; RECORD_WORDS]
     ensures { result ≡ end_words position }
 {
-    [0, 0, position as u64, 0, 0, 0, 0, 0, 0]
+    [RecordKind::End as u64, 0, position as u64, 0, 0, 0, 0, 0, 0]
 }
 
-// The words of a step's answer.
+// The words of what a step hands out.
 pub fn item_words(item: Item) -> [u64; RECORD_WORDS]
-    ensures { result ≡ words (item_read item) }
+    ensures { result ≡ words (gives (places_of item)) }
 {
     match item {
         Item::End { position } => end_words(position),
@@ -106,36 +105,45 @@ pub fn item_words(item: Item) -> [u64; RECORD_WORDS]
             minor,
             end,
         } => [
-            1,
+            RecordKind::Marker as u64,
             0xE0,
             start as u64,
-            wide(major),
-            wide(minor),
+            u64::from(major),
+            u64::from(minor),
             end as u64,
             end as u64,
             0,
             0,
         ],
-        Item::Value(value) => value_words(2, value.start, value, 0),
-        Item::Field { id, start, value } => value_words(3, start, value, id),
-        Item::Refused(refusal) => refused_words(refusal),
+        Item::Value(value) => value_words(RecordKind::Value, value.start, value, 0),
+        Item::Field { id, start, value } => value_words(RecordKind::Field, start, value, id),
     }
 }
 
-// The words of kind 4: how many pads a bounded step passed, and where it goes on.
-pub fn more_words(pads: usize, position: usize) -> [u64; RECORD_WORDS]
-    ensures { result ≡ more_words pads position }
+// The words of a bounded step that goes on: how many pads it passed, and where it goes on.
+pub fn more_words(pads: usize, at: usize) -> [u64; RECORD_WORDS]
+    ensures { result ≡ more_words pads at }
 {
-    [4, pads as u64, position as u64, 0, 0, 0, 0, 0, 0]
+    [
+        RecordKind::More as u64,
+        pads as u64,
+        at as u64,
+        0,
+        0,
+        0,
+        0,
+        0,
+        0,
+    ]
 }
 
 // The words of a refusal.
 pub fn refused_words(refusal: Refusal) -> [u64; RECORD_WORDS]
-    ensures { result ≡ refused_words refusal.number refusal.position }
+    ensures { result ≡ refused_words (number_of refusal.reason) refusal.position }
 {
     [
-        REFUSED,
-        refusal.number,
+        RecordKind::Refused as u64,
+        refusal.reason.number(),
         refusal.position as u64,
         0,
         0,
@@ -146,35 +154,59 @@ pub fn refused_words(refusal: Refusal) -> [u64; RECORD_WORDS]
     ]
 }
 
-// Those of 50.
-pub fn outside_words() -> [u64; RECORD_WORDS]
-    ensures { result ≡ refused_words 50 0 }
+// What a call refuses by itself: a part, a position, a kind or a form that isn't one, and a limit outside its range.
+pub const OUTSIDE: Refusal = Refusal {
+    reason: Reason::Outside,
+    position: 0,
+};
+
+pub const LIMIT_OUT_OF_RANGE: Refusal = Refusal {
+    reason: Reason::LimitOutOfRange,
+    position: 0,
+};
+
+// The words of an answer that is a number of bytes.
+pub fn bytes_words(kind: RecordKind, size: Result<usize, Refusal>) -> [u64; RECORD_WORDS]
+    ensures { result ≡ bytes_words (kind_word kind) (outcome (λ n. n) size) }
 {
-    refused_words(Refusal {
-        number: OUTSIDE,
-        position: 0,
-    })
+    match size {
+        Ok(n) => [kind as u64, 0, 0, n as u64, 0, 0, 0, 0, 0],
+        Err(refusal) => refused_words(refusal),
+    }
 }
 
 // The words of an annotation step.
-pub fn annotation_words(position: usize, annotation: Annotation) -> [u64; RECORD_WORDS]
+pub fn annotation_words(
+    position: usize,
+    annotation: Result<Option<Annotation>, Refusal>,
+) -> [u64; RECORD_WORDS]
     ensures { result ≡ annotation_words position (annotation_read annotation) }
 {
     match annotation {
-        Annotation::Id { id, next } => [5, 0, position as u64, id as u64, 0, 0, next as u64, 0, 0],
-        Annotation::End => end_words(position),
-        Annotation::Refused(refusal) => refused_words(refusal),
+        Ok(Some(Annotation { id, next })) => [
+            RecordKind::Annotation as u64,
+            0,
+            position as u64,
+            id as u64,
+            0,
+            0,
+            next as u64,
+            0,
+            0,
+        ],
+        Ok(None) => end_words(position),
+        Err(refusal) => refused_words(refusal),
     }
 }
 
 // The words of a body that a container opens.
-pub fn body_words(descriptor: usize, body: Body) -> [u64; RECORD_WORDS]
+pub fn body_words(descriptor: usize, body: Result<Body, Refusal>) -> [u64; RECORD_WORDS]
     ensures { result ≡ body_words (and_then (body_read body) (entered_at descriptor)) }
 {
     match body {
-        Body::Open { rules, cursor } => [
-            6,
-            part_kind(rules),
+        Ok(Body { rules, cursor }) => [
+            RecordKind::Body as u64,
+            u64::from(rules),
             descriptor as u64,
             0,
             0,
@@ -183,163 +215,164 @@ pub fn body_words(descriptor: usize, body: Body) -> [u64; RECORD_WORDS]
             0,
             size_of(cursor.at, cursor.end),
         ],
-        Body::Refused(refusal) => refused_words(refusal),
+        Err(refusal) => refused_words(refusal),
     }
 }
 
+// What a scalar is: word 3 of its record.
+#[derive(Clone, Copy)]
+enum What {
+    Null = 0,
+    Bool = 1,
+    Int = 2,
+    Float = 3,
+    Decimal = 4,
+    Timestamp = 5,
+    Symbol = 6,
+    Text = 7,
+    Clob = 8,
+    Blob = 9,
+    Container = 10,
+}
+
+const NO_PART: Span = Span { start: 0, end: 0 };
+
 // The words of a reading: what it is, its number and its part.
-fn reading_words(
-    value: EncodedValue,
-    what: u64,
-    worth: u64,
-    start: usize,
-    end: usize,
-) -> [u64; RECORD_WORDS]
-    ensures { result ≡ 7 ∷ value.byte ∷ value.descriptor ∷ what ∷ worth ∷ start ∷ end ∷ 0 ∷ (end - start) ∷ [] }
+fn reading_words(value: EncodedValue, what: What, worth: u64, part: Span) -> [u64; RECORD_WORDS]
+    ensures { result ≡ 7 ∷ value.byte ∷ value.descriptor ∷ what_word what ∷ worth ∷ part.start ∷ part.end ∷ 0 ∷ (part.end - part.start) ∷ [] }
 {
     [
-        7,
-        wide(value.byte),
+        RecordKind::Scalar as u64,
+        u64::from(value.byte),
         value.descriptor as u64,
-        what,
+        what as u64,
         worth,
-        start as u64,
-        end as u64,
+        part.start as u64,
+        part.end as u64,
         0,
-        size_of(start, end),
+        size_of(part.start, part.end),
     ]
 }
 
-fn one_if(b: bool) -> u64
-    ensures { result ≡ one_if b }
-{
-    if b {
-        return 1;
-    }
-    0
-}
-
 // The words of a value's reading.
-pub fn scalar_words(value: EncodedValue, scalar: Scalar) -> [u64; RECORD_WORDS]
+pub fn scalar_words(value: EncodedValue, scalar: Result<Scalar, Refusal>) -> [u64; RECORD_WORDS]
     ensures { result ≡ scalar_words (spans_of value) (scalar_read scalar) }
 {
     match scalar {
-        Scalar::Null { type_code: _ } => reading_words(value, 0, 0, 0, 0),
-        Scalar::Bool { value: b } => reading_words(value, 1, one_if(b), 0, 0),
-        Scalar::Int {
-            negative,
-            start,
-            end,
-        } => reading_words(value, 2, one_if(negative), start, end),
-        Scalar::Float { bits } => reading_words(value, 3, bits, 0, 0),
-        Scalar::Decimal { start, end } => reading_words(value, 4, 0, start, end),
-        Scalar::Timestamp { start, end } => reading_words(value, 5, 0, start, end),
-        Scalar::Symbol { id } => reading_words(value, 6, id, 0, 0),
-        Scalar::Text { start, end } => reading_words(value, 7, 0, start, end),
-        Scalar::Clob { start, end } => reading_words(value, 8, 0, start, end),
-        Scalar::Blob { start, end } => reading_words(value, 9, 0, start, end),
-        Scalar::Container => reading_words(value, 10, 0, 0, 0),
-        Scalar::Refused(refusal) => refused_words(refusal),
+        Ok(Scalar::Null { .. }) => reading_words(value, What::Null, 0, NO_PART),
+        Ok(Scalar::Bool(b)) => reading_words(value, What::Bool, u64::from(b), NO_PART),
+        Ok(
+            Scalar::Int {
+                negative,
+                magnitude,
+            },
+        ) => reading_words(value, What::Int, u64::from(negative), magnitude),
+        Ok(Scalar::Float { bits }) => reading_words(value, What::Float, bits, NO_PART),
+        Ok(Scalar::Decimal(part)) => reading_words(value, What::Decimal, 0, part),
+        Ok(Scalar::Timestamp(part)) => reading_words(value, What::Timestamp, 0, part),
+        Ok(Scalar::Symbol { id }) => reading_words(value, What::Symbol, id, NO_PART),
+        Ok(Scalar::Text(part)) => reading_words(value, What::Text, 0, part),
+        Ok(Scalar::Clob(part)) => reading_words(value, What::Clob, 0, part),
+        Ok(Scalar::Blob(part)) => reading_words(value, What::Blob, 0, part),
+        Ok(Scalar::Container) => reading_words(value, What::Container, 0, NO_PART),
+        Err(refusal) => refused_words(refusal),
     }
 }
 
 // The words of a number.
-pub fn number_words(
-    position: usize,
-    negative: bool,
-    value: usize,
-    rest: usize,
-    end: usize,
-) -> [u64; RECORD_WORDS]
-    ensures { result ≡ 8 ∷ one_if negative ∷ position ∷ value ∷ 0 ∷ rest ∷ end ∷ 0 ∷ 0 ∷ [] }
+pub fn number_words(position: usize, number: Result<Number, Refusal>) -> [u64; RECORD_WORDS]
+    ensures { result ≡ number_words position (number_read number) }
 {
-    [
-        8,
-        one_if(negative),
-        position as u64,
-        value as u64,
-        0,
-        rest as u64,
-        end as u64,
-        0,
-        0,
-    ]
-}
-
-// The words of a decimal whose body begins at `start`.
-pub fn decimal_words(start: usize, decimal: Decimal) -> [u64; RECORD_WORDS]
-    ensures { result ≡ decimal_words start (decimal_read decimal) }
-{
-    match decimal {
-        Decimal::Value {
-            exponent_negative,
-            exponent,
-            negative: below,
-            first,
-            rest: further,
-            end,
-        } => [
-            10,
-            one_if(below),
-            start as u64,
-            wide(first),
-            one_if(exponent_negative),
-            further as u64,
+    match number {
+        Ok(
+            Number {
+                negative,
+                value,
+                rest,
+                end,
+            },
+        ) => [
+            RecordKind::Number as u64,
+            u64::from(negative),
+            position as u64,
+            value as u64,
+            0,
+            rest as u64,
             end as u64,
-            exponent as u64,
+            0,
             0,
         ],
-        Decimal::Refused(refusal) => refused_words(refusal),
+        Err(refusal) => refused_words(refusal),
     }
 }
 
-fn wide_year(x: u16) -> u64
-    ensures { result ≡ x }
+// The words of a decimal whose body begins at `start`.
+pub fn decimal_words(start: usize, decimal: Result<Decimal, Refusal>) -> [u64; RECORD_WORDS]
+    ensures { result ≡ decimal_words start (decimal_read decimal) }
 {
-    x as u64
+    match decimal {
+        Ok(
+            Decimal {
+                exponent_negative,
+                exponent,
+                coefficient,
+            },
+        ) => [
+            RecordKind::Decimal as u64,
+            u64::from(coefficient.negative),
+            start as u64,
+            u64::from(coefficient.first),
+            u64::from(exponent_negative),
+            coefficient.rest as u64,
+            coefficient.end as u64,
+            exponent as u64,
+            0,
+        ],
+        Err(refusal) => refused_words(refusal),
+    }
 }
 
-// A timestamp's fields in one word.
-fn fields_word(year: u16, month: u8, day: u8, hour: u8, minute: u8, second: u8) -> u64
-    ensures { result ≡ fields_word year month day hour minute second }
+// A timestamp's fields in one word: the year's two bytes, and a byte for each of the others.
+fn fields_word(stamp: Stamp) -> u64
+    ensures { result ≡ fields_word stamp.year stamp.month stamp.day stamp.hour stamp.minute stamp.second }
 {
-    let date = wide_year(year) + 0x1_0000 * wide(month) + 0x100_0000 * wide(day);
-    let time = 0x1_0000_0000 * wide(hour) + 0x100_0000_0000 * wide(minute);
-    date + time + 0x1_0000_0000_0000 * wide(second)
+    let [low, high] = stamp.year.to_le_bytes();
+    u64::from_le_bytes([
+        low,
+        high,
+        stamp.month,
+        stamp.day,
+        stamp.hour,
+        stamp.minute,
+        stamp.second,
+        0,
+    ])
 }
 
 // The words of what a timestamp says.
 fn stamp_words(descriptor: usize, stamp: Stamp) -> [u64; RECORD_WORDS]
     ensures { result ≡ stamp_words descriptor stamp }
 {
-    let fields = fields_word(
-        stamp.year,
-        stamp.month,
-        stamp.day,
-        stamp.hour,
-        stamp.minute,
-        stamp.second,
-    );
     [
-        11,
-        wide(stamp.precision),
+        RecordKind::Timestamp as u64,
+        u64::from(stamp.precision),
         descriptor as u64,
-        wide_year(stamp.offset),
-        fields,
+        u64::from(stamp.offset),
+        fields_word(stamp),
         stamp.exponent as u64,
-        one_if(stamp.exponent_negative),
+        u64::from(stamp.exponent_negative),
         stamp.coefficient,
         0,
     ]
 }
 
 // The words of a reading of a timestamp, and of any other value.
-pub fn timestamp_words(read: TimestampRead) -> [u64; RECORD_WORDS]
+pub fn timestamp_words(read: Result<TimestampRead, Refusal>) -> [u64; RECORD_WORDS]
     ensures { result ≡ timestamp_words (dated_read read) }
 {
     match read {
-        TimestampRead::Stamped { descriptor, stamp } => stamp_words(descriptor, stamp),
-        TimestampRead::Other { value, scalar } => scalar_words(value, scalar),
-        TimestampRead::Refused(refusal) => refused_words(refusal),
+        Ok(TimestampRead::Stamped { descriptor, stamp }) => stamp_words(descriptor, stamp),
+        Ok(TimestampRead::Other { value, scalar }) => scalar_words(value, Ok(scalar)),
+        Err(refusal) => refused_words(refusal),
     }
 }

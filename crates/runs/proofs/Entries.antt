@@ -13,12 +13,12 @@ use contract.Monad.{fact}
 use contract.Lifetimes.{Lfts}
 use contract.Running.{Running, strict}
 use denote.Ref.{Bor}
-use Rattle.numbers.specs.Outcome.{Outcome, gives, refuses}
+use Rattle.std.specs.Prelude.{Option, None, Some, Result, Ok, Err}
+use Rattle.numbers.specs.Outcome.{Outcome}
+use Rattle.numbers.specs.declared.refusal.Refusal.{Refusal}
 use Rattle.framing.specs.Answers.{Annotated, ident, finished, read_annotation}
-use Rattle.framing.specs.Read.{annotation_read}
+use Rattle.framing.specs.Read.{annotated_of, annotation_read}
 use Rattle.framing.specs.declared.annotations_iterator.Annotation.{Annotation}
-use Rattle.framing.specs.declared.annotations_iterator.Annotation.TheVariants.{Id, End, Refused as AnnotationRefused}
-use Rattle.framing.proofs.annotations_iterator.Annotation.TheLaws as annotation-laws
 use Rattle.framing.specs.contracts.annotations_iterator.read_annotation as annotation
 use Rattle.framing.proofs.annotations_iterator.read_annotation.Symbol as annotation-symbol
 use Rattle.framing.proofs.annotations_iterator.read_annotation.Met as annotation-met
@@ -26,12 +26,12 @@ use Rattle.stepping.specs.Runs.{cursor}
 use Rattle.stepping.specs.declared.cursor.Rules.{Rules}
 use Rattle.stepping.specs.declared.cursor.Rules.TheVariants.{Stream, Sequence, Fields}
 use Rattle.values.specs.Scalars.{Opened, step_in, Scalar, null, bool, int, float, decimal, timestamp, symbol, string, clob, blob, container, read_scalar}
-use Rattle.values.specs.Read.{body_read, scalar_read}
+use Rattle.values.specs.Read.{opened_of, body_read, scalar_told, scalar_read}
 use Rattle.values.specs.declared.value.Body.{Body}
-use Rattle.values.specs.declared.value.Body.TheVariants.{Open, Refused as BodyRefused}
+use Rattle.values.specs.declared.value.Span.{Span}
 use Rattle.values.specs.declared.value.Scalar.{Scalar as ScalarEnum}
-use Rattle.values.specs.declared.value.Scalar.TheVariants.{Null, Bool, Int, Float, Decimal, Timestamp, Symbol, Text, Clob, Blob, Container, Refused as ScalarRefused}
-use Rattle.values.proofs.value.Body.TheLaws as body-laws
+use Rattle.values.specs.declared.value.Scalar.TheVariants.{Null, Bool, Int, Float, Decimal, Timestamp, Symbol, Text, Clob, Blob, Container}
+use Rattle.stepping.proofs.cursor.Rules.TheLaws as rules-laws
 use Rattle.values.specs.contracts.value.step_in as entering
 use Rattle.values.proofs.value.step_in.Symbol as entering-symbol
 use Rattle.values.proofs.value.step_in.Met as entering-met
@@ -39,167 +39,178 @@ use Rattle.values.proofs.value.Scalar.TheLaws as scalar-laws
 use Rattle.values.specs.contracts.value.read as reading
 use Rattle.values.proofs.value.read.Symbol as reading-symbol
 use Rattle.values.proofs.value.read.Met as reading-met
-use Rattle.runs.specs.Program.{HasEntries, Annotates, Enters, Reads}
+use Rattle.runs.specs.Program.{annotation_lowers, body_lowers, scalar_lowers, HasEntries, Annotates, Enters, Reads}
 use Rattle.runs.proofs.Machine as machine
 use Rattle.runs.proofs.Machine.{Answered}
-use Rattle.runs.proofs.Values.{num, bit, field, read_refusal, choose}
+use Rattle.runs.proofs.Values.{num, bit, field, choose, read_result, read_option, refusal_back}
+use Rattle.runs.proofs.Results.{one, other, differ, made, made_read, known}
 
 -- ---- annotations
 
-read-annotation : Val → Annotation
-read-annotation v =
-    choose (num (field 0 v)) (Id (num (field 1 v)) (num (field 2 v)) ∷ End ∷ []) (AnnotationRefused (read_refusal (field 1 v)))
+read_id : Val → Annotation
+read_id v = record { id = num (field 0 v); next = num (field 1 v) }
 
-annotation_back : (x : Annotation) → read-annotation (annotation-laws.lowered x) ≡ x
-unfolding read-annotation
-annotation_back (Id i n) = refl
-annotation_back End = refl
-annotation_back (AnnotationRefused e) = refl
+read-annotation : Val → Result (Option Annotation) Refusal
+read-annotation = read_result (read_option read_id)
 
-annotation_one : (x y : Annotation) → annotation-laws.lowered x ≡ annotation-laws.lowered y → x ≡ y
-annotation_one x y e = sym (annotation_back x) ∙ ap read-annotation e ∙ annotation_back y
+module _ (κs : Lfts 1) where
+  annotation_back : (x : Result (Option Annotation) Refusal) → read-annotation ((annotation_lowers κs).lowered x) ≡ x
+  unfolding read_id read-annotation
+  annotation_back (Ok (Some a)) = refl
+  annotation_back (Ok None) = refl
+  annotation_back (Err e) = ap Err (refusal_back e)
 
-annotation_of : Outcome Annotated → Annotation
-annotation_of (gives (ident i n)) = Id i n
-annotation_of (gives finished) = End
-annotation_of (refuses n p) = AnnotationRefused (record { number = n; position = p })
+  annotation_one : (x y : Result (Option Annotation) Refusal) → (annotation_lowers κs).lowered x ≡ (annotation_lowers κs).lowered y → x ≡ y
+  annotation_one x y e = sym (annotation_back x) ∙ ap read-annotation e ∙ annotation_back y
 
-annotation_made : (o : Outcome Annotated) → annotation_read (annotation_of o) ≡ o
-unfolding annotation_of
-annotation_made (gives (ident i n)) = refl
-annotation_made (gives finished) = refl
-annotation_made (refuses n p) = refl
+id_of : Annotated → Option Annotation
+id_of (ident i n) = Some (record { id = i; next = n })
+id_of finished = None
 
-annotation-read : (x : Annotation) → annotation_of (annotation_read x) ≡ x
-unfolding annotation_of
-annotation-read (Id i n) = refl
-annotation-read End = refl
-annotation-read (AnnotationRefused e) = refl
+id_told : (a : Annotated) → annotated_of (id_of a) ≡ a
+unfolding id_of
+id_told (ident i n) = refl
+id_told finished = refl
+
+id_back : (a : Option Annotation) → id_of (annotated_of a) ≡ a
+unfolding id_of
+id_back (Some a) = refl
+id_back None = refl
 
 -- ---- stepping in
 
 read_rules : Val → Rules
 read_rules v = choose (num (field 0 v)) (Stream ∷ Sequence ∷ []) Fields
 
-read-body : Val → Body
-read-body v =
-    choose (num (field 0 v))
-    (Open (read_rules (field 1 v)) (cursor (num (field 0 (field 2 v))) (num (field 1 (field 2 v)))) ∷ [])
-    (BodyRefused (read_refusal (field 1 v)))
+read_body : Val → Body
+read_body v =
+    record { rules = read_rules (field 0 v); cursor = cursor (num (field 0 (field 1 v))) (num (field 1 (field 1 v))) }
 
-body_back : (x : Body) → read-body (body-laws.lowered x) ≡ x
-unfolding read_rules read-body
-body_back (Open Stream c) = refl
-body_back (Open Sequence c) = refl
-body_back (Open Fields c) = refl
-body_back (BodyRefused e) = refl
+rules_back : (r : Rules) → read_rules (rules-laws.lowered r) ≡ r
+unfolding read_rules
+rules_back Stream = refl
+rules_back Sequence = refl
+rules_back Fields = refl
 
-body_one : (x y : Body) → body-laws.lowered x ≡ body-laws.lowered y → x ≡ y
-body_one x y e = sym (body_back x) ∙ ap read-body e ∙ body_back y
+module _ (κs : Lfts 1) where
+  body_back : (x : Result Body Refusal) → read_result read_body ((body_lowers κs).lowered x) ≡ x
+  unfolding read_body
+  body_back (Ok b) = ap (λ (r : Rules). Ok (record { rules = r; cursor = b.cursor })) (rules_back b.rules)
+  body_back (Err e) = ap Err (refusal_back e)
 
-body_of : Outcome Opened → Body
-body_of (gives o) = Open o.rules (cursor o.body o.end)
-body_of (refuses n p) = BodyRefused (record { number = n; position = p })
+  body_one : (x y : Result Body Refusal) → (body_lowers κs).lowered x ≡ (body_lowers κs).lowered y → x ≡ y
+  body_one x y e = sym (body_back x) ∙ ap (read_result read_body) e ∙ body_back y
 
-body_made : (o : Outcome Opened) → body_read (body_of o) ≡ o
+body_of : Opened → Body
+body_of o = record { rules = o.rules; cursor = cursor o.body o.end }
+
+body_told : (o : Opened) → opened_of (body_of o) ≡ o
 unfolding body_of
-body_made (gives o) = refl
-body_made (refuses n p) = refl
+body_told o = refl
 
-body-read : (x : Body) → body_of (body_read x) ≡ x
+body-back : (b : Body) → body_of (opened_of b) ≡ b
 unfolding body_of
-body-read (Open r c) = refl
-body-read (BodyRefused e) = refl
+body-back b = refl
 
 -- ---- the scalar reading
+
+read_span : Val → Span
+read_span v = record { start = num (field 0 v); end = num (field 1 v) }
 
 read-scalar : Val → ScalarEnum
 read-scalar v =
     let a : ℕ = num (field 1 v) in
-    let b : ℕ = num (field 2 v) in
+    let s : Span = read_span (field 1 v) in
     choose (num (field 0 v))
-    (Null a ∷ Bool (bit (field 1 v)) ∷ Int (bit (field 1 v)) b (num (field 3 v)) ∷ Float a ∷ Decimal a b ∷ Timestamp a b ∷ Symbol a ∷ Text a b ∷ Clob a b ∷ Blob a b ∷ Container ∷ [])
-    (ScalarRefused (read_refusal (field 1 v)))
+    (Null a ∷ Bool (bit (field 1 v)) ∷ Int (bit (field 1 v)) (read_span (field 2 v)) ∷ Float a ∷ Decimal s ∷ Timestamp s ∷ Symbol a ∷ Text s ∷ Clob s ∷ Blob s ∷ [])
+    Container
 
 scalar_back : (x : ScalarEnum) → read-scalar (scalar-laws.lowered x) ≡ x
-unfolding read-scalar
+unfolding read_span read-scalar
 scalar_back (Null t) = refl
 scalar_back (Bool b) = refl
-scalar_back (Int n a b) = refl
+scalar_back (Int n m) = refl
 scalar_back (Float w) = refl
-scalar_back (Decimal a b) = refl
-scalar_back (Timestamp a b) = refl
+scalar_back (Decimal b) = refl
+scalar_back (Timestamp b) = refl
 scalar_back (Symbol i) = refl
-scalar_back (Text a b) = refl
-scalar_back (Clob a b) = refl
-scalar_back (Blob a b) = refl
+scalar_back (Text b) = refl
+scalar_back (Clob b) = refl
+scalar_back (Blob b) = refl
 scalar_back Container = refl
-scalar_back (ScalarRefused e) = refl
 
-scalar_one : (x y : ScalarEnum) → scalar-laws.lowered x ≡ scalar-laws.lowered y → x ≡ y
-scalar_one x y e = sym (scalar_back x) ∙ ap read-scalar e ∙ scalar_back y
+module _ (κs : Lfts 1) where
+  reading_back : (x : Result ScalarEnum Refusal) → read_result read-scalar ((scalar_lowers κs).lowered x) ≡ x
+  reading_back (Ok x) = ap Ok (scalar_back x)
+  reading_back (Err e) = ap Err (refusal_back e)
 
-scalar-of : Outcome Scalar → ScalarEnum
-scalar-of (gives (null t)) = Null t
-scalar-of (gives (bool b)) = Bool b
-scalar-of (gives (int n a b)) = Int n a b
-scalar-of (gives (float w)) = Float w
-scalar-of (gives (decimal a b)) = Decimal a b
-scalar-of (gives (timestamp a b)) = Timestamp a b
-scalar-of (gives (symbol i)) = Symbol i
-scalar-of (gives (string a b)) = Text a b
-scalar-of (gives (clob a b)) = Clob a b
-scalar-of (gives (blob a b)) = Blob a b
-scalar-of (gives container) = Container
-scalar-of (refuses n p) = ScalarRefused (record { number = n; position = p })
+  scalar_one : (x y : Result ScalarEnum Refusal) → (scalar_lowers κs).lowered x ≡ (scalar_lowers κs).lowered y → x ≡ y
+  scalar_one x y e = sym (reading_back x) ∙ ap (read_result read-scalar) e ∙ reading_back y
 
-scalar_made : (o : Outcome Scalar) → scalar_read (scalar-of o) ≡ o
-unfolding scalar-of
-scalar_made (gives (null t)) = refl
-scalar_made (gives (bool b)) = refl
-scalar_made (gives (int n a b)) = refl
-scalar_made (gives (float w)) = refl
-scalar_made (gives (decimal a b)) = refl
-scalar_made (gives (timestamp a b)) = refl
-scalar_made (gives (symbol i)) = refl
-scalar_made (gives (string a b)) = refl
-scalar_made (gives (clob a b)) = refl
-scalar_made (gives (blob a b)) = refl
-scalar_made (gives container) = refl
-scalar_made (refuses n p) = refl
+span : ℕ → ℕ → Span
+span a b = record { start = a; end = b }
 
-scalar_read_lem : (x : ScalarEnum) → scalar-of (scalar_read x) ≡ x
-unfolding scalar-of
-scalar_read_lem (Null t) = refl
-scalar_read_lem (Bool b) = refl
-scalar_read_lem (Int n a b) = refl
-scalar_read_lem (Float w) = refl
-scalar_read_lem (Decimal a b) = refl
-scalar_read_lem (Timestamp a b) = refl
-scalar_read_lem (Symbol i) = refl
-scalar_read_lem (Text a b) = refl
-scalar_read_lem (Clob a b) = refl
-scalar_read_lem (Blob a b) = refl
-scalar_read_lem Container = refl
-scalar_read_lem (ScalarRefused e) = refl
+scalar-of : Scalar → ScalarEnum
+scalar-of (null t) = Null t
+scalar-of (bool b) = Bool b
+scalar-of (int n a b) = Int n (span a b)
+scalar-of (float w) = Float w
+scalar-of (decimal a b) = Decimal (span a b)
+scalar-of (timestamp a b) = Timestamp (span a b)
+scalar-of (symbol i) = Symbol i
+scalar-of (string a b) = Text (span a b)
+scalar-of (clob a b) = Clob (span a b)
+scalar-of (blob a b) = Blob (span a b)
+scalar-of container = Container
+
+scalar_told_lem : (x : Scalar) → scalar_told (scalar-of x) ≡ x
+unfolding span scalar-of
+scalar_told_lem (null t) = refl
+scalar_told_lem (bool b) = refl
+scalar_told_lem (int n a b) = refl
+scalar_told_lem (float w) = refl
+scalar_told_lem (decimal a b) = refl
+scalar_told_lem (timestamp a b) = refl
+scalar_told_lem (symbol i) = refl
+scalar_told_lem (string a b) = refl
+scalar_told_lem (clob a b) = refl
+scalar_told_lem (blob a b) = refl
+scalar_told_lem container = refl
+
+scalar_of_lem : (x : ScalarEnum) → scalar-of (scalar_told x) ≡ x
+unfolding span scalar-of
+scalar_of_lem (Null t) = refl
+scalar_of_lem (Bool b) = refl
+scalar_of_lem (Int n m) = refl
+scalar_of_lem (Float w) = refl
+scalar_of_lem (Decimal b) = refl
+scalar_of_lem (Timestamp b) = refl
+scalar_of_lem (Symbol i) = refl
+scalar_of_lem (Text b) = refl
+scalar_of_lem (Clob b) = refl
+scalar_of_lem (Blob b) = refl
+scalar_of_lem Container = refl
 
 module _ {M : Type 1} {𝓤 : Ura M} (𝓛 : Logic 𝓤) (𝓜 : Model 𝓤 𝓛.H) (𝓡 : Running 𝓤 𝓛.H 𝓜) (has : HasEntries 𝓡.env) (κs : Lfts 1) where
   open 𝓛 use {H}
 
-  pub annotation_answers : (s : Bor (List ℕ)) (at end : ℕ) → Answered 𝓛 𝓜 annotation.signature (𝓡.env annotation-symbol.name) κs tt annotation-laws.lowers (s, (at, (end, tt))) (λ x. annotation_read x ≡ read_annotation s.now at end)
+  pub annotation_answers : (s : Bor (List ℕ)) (at end : ℕ) → Answered 𝓛 𝓜 annotation.signature (𝓡.env annotation-symbol.name) κs tt (annotation_lowers κs) (s, (at, (end, tt))) (λ x. annotation_read x ≡ read_annotation s.now at end)
   annotation_answers s at end =
-      machine.answered 𝓛 𝓜 𝓡 annotation.ended (𝓡.env annotation-symbol.name) (annotation.clauses 𝓛 𝓜.mem 𝓡.returns) (annotation-met.met 𝓤 𝓛 𝓜 (strict 𝓤 H 𝓜 𝓡) has.annotation) κs tt annotation-laws.lowers annotation_read annotation_of annotation_made annotation-read annotation_one
+      machine.answered 𝓛 𝓜 𝓡 annotation.ended (𝓡.env annotation-symbol.name) (annotation.clauses 𝓛 𝓜.mem 𝓡.returns) (annotation-met.met 𝓤 𝓛 𝓜 (strict 𝓤 H 𝓜 𝓡) has.annotation) κs tt (annotation_lowers κs) annotation_read (made annotated_of id_of id_told id_back) (made_read annotated_of id_of id_told id_back) (annotation_one κs) (Err one) (Err other) differ
       (s, (at, (end, tt))) tt (read_annotation s.now at end) (id⊢ 𝓤 (emp 𝓤)) (λ x ws. id⊢ 𝓤 (fact 𝓤 (annotation_read x ≡ read_annotation s.now at end)))
+      (known annotated_of id_of id_told id_back (read_annotation s.now at end))
 
-  pub entering_answers : (limit : ℕ) (s : Bor (List ℕ)) (lo hi at : ℕ) → Answered 𝓛 𝓜 entering.signature (𝓡.env entering-symbol.name) κs tt body-laws.lowers (s, (lo, (hi, (at, (limit, tt))))) (λ x. body_read x ≡ step_in limit s.now lo hi at)
+  pub entering_answers : (limit : ℕ) (s : Bor (List ℕ)) (lo hi at : ℕ) → Answered 𝓛 𝓜 entering.signature (𝓡.env entering-symbol.name) κs tt (body_lowers κs) (s, (lo, (hi, (at, (limit, tt))))) (λ x. body_read x ≡ step_in limit s.now lo hi at)
   entering_answers limit s lo hi at =
-      machine.answered 𝓛 𝓜 𝓡 entering.ended (𝓡.env entering-symbol.name) (entering.clauses 𝓛 𝓜.mem 𝓡.returns) (entering-met.met 𝓤 𝓛 𝓜 (strict 𝓤 H 𝓜 𝓡) has.entering) κs tt body-laws.lowers body_read body_of body_made body-read body_one
+      machine.answered 𝓛 𝓜 𝓡 entering.ended (𝓡.env entering-symbol.name) (entering.clauses 𝓛 𝓜.mem 𝓡.returns) (entering-met.met 𝓤 𝓛 𝓜 (strict 𝓤 H 𝓜 𝓡) has.entering) κs tt (body_lowers κs) body_read (made opened_of body_of body_told body-back) (made_read opened_of body_of body_told body-back) (body_one κs) (Err one) (Err other) differ
       (s, (lo, (hi, (at, (limit, tt))))) tt (step_in limit s.now lo hi at) (id⊢ 𝓤 (emp 𝓤)) (λ x ws. id⊢ 𝓤 (fact 𝓤 (body_read x ≡ step_in limit s.now lo hi at)))
+      (known opened_of body_of body_told body-back (step_in limit s.now lo hi at))
 
-  pub reading_answers : (limit : ℕ) (s : Bor (List ℕ)) (lo hi at : ℕ) → Answered 𝓛 𝓜 reading.signature (𝓡.env reading-symbol.name) κs tt scalar-laws.lowers (s, (lo, (hi, (at, (limit, tt))))) (λ x. scalar_read x ≡ read_scalar limit s.now lo hi at)
+  pub reading_answers : (limit : ℕ) (s : Bor (List ℕ)) (lo hi at : ℕ) → Answered 𝓛 𝓜 reading.signature (𝓡.env reading-symbol.name) κs tt (scalar_lowers κs) (s, (lo, (hi, (at, (limit, tt))))) (λ x. scalar_read x ≡ read_scalar limit s.now lo hi at)
   reading_answers limit s lo hi at =
-      machine.answered 𝓛 𝓜 𝓡 reading.ended (𝓡.env reading-symbol.name) (reading.clauses 𝓛 𝓜.mem 𝓡.returns) (reading-met.met 𝓤 𝓛 𝓜 (strict 𝓤 H 𝓜 𝓡) has.reading) κs tt scalar-laws.lowers scalar_read scalar-of scalar_made scalar_read_lem scalar_one
+      machine.answered 𝓛 𝓜 𝓡 reading.ended (𝓡.env reading-symbol.name) (reading.clauses 𝓛 𝓜.mem 𝓡.returns) (reading-met.met 𝓤 𝓛 𝓜 (strict 𝓤 H 𝓜 𝓡) has.reading) κs tt (scalar_lowers κs) scalar_read (made scalar_told scalar-of scalar_told_lem scalar_of_lem) (made_read scalar_told scalar-of scalar_told_lem scalar_of_lem) (scalar_one κs) (Err one) (Err other) differ
       (s, (lo, (hi, (at, (limit, tt))))) tt (read_scalar limit s.now lo hi at) (id⊢ 𝓤 (emp 𝓤)) (λ x ws. id⊢ 𝓤 (fact 𝓤 (scalar_read x ≡ read_scalar limit s.now lo hi at)))
+      (known scalar_told scalar-of scalar_told_lem scalar_of_lem (read_scalar limit s.now lo hi at))
 
   pub annotates : (s : Bor (List ℕ)) (end at : ℕ) (o : Outcome Annotated) → Annotates 𝓛 𝓜 𝓡.env κs s end at o → o ≡ read_annotation s.now at end
   annotates s end at o p = sym p.2 ∙ (annotation_answers s at end).returned p.0 p.1

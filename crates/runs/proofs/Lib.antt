@@ -8,5 +8,6 @@ pub mod OneBody
 pub mod PartSets
 pub mod Machine
 pub mod Values
+pub mod Results
 pub mod Entries
 pub mod Program

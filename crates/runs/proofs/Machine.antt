@@ -2,7 +2,7 @@
 -- Assumes nothing.
 use mathlib.Core.Path.{◌≡◌, ◌∙◌, sym, ap}
 use mathlib.Core.List.{List, [], ◌∷◌}
-use mathlib.Core.Logic.{∥∥₁_prop, ∥∥₁_elim, ∥∥₁_map}
+use mathlib.Core.Logic.{◌⊎◌, inl, inr, ∥∥₁_prop, ∥∥₁_elim, ∥∥₁_map}
 use seplogic.Ra.Ura.{Ura}
 use types.Logic.{Logic, sem}
 use base.Logic.{SProp, ent, emp, sep, id⊢, via, fst∗, snd∗, mono_l}
@@ -76,21 +76,39 @@ pub record Answered {M : Type 1} {𝓤 : Ura M} (𝓛 : Logic 𝓤) (𝓜 : Mode
   pub ends : Ends 𝓛 𝓜 S ρ κs bounds L a P
 
 -- the same from a function's own theorem: T is its signature with what ends with its borrows, cl its clauses, met its theorem. Where its contract says what its
--- result is read as, and that reading has an inverse, whatever the machine returned is read so, and every call ends and returns what is read so.
+-- result is read as, x, and `made` gives each result back from what it is read as, whatever the machine returned is read so, and every call ends and returns what
+-- is read so. Where no result is read as x, no call is made at all: else it would return each of two results.
 module _ {M : Type 1} {𝓤 : Ura M} (𝓛 : Logic 𝓤) (𝓜 : Model 𝓤 𝓛.H) (𝓡 : Running 𝓤 𝓛.H 𝓜) (T : Ended) (ρ : Routine) (cl : Clauses 𝓤 T) (met : Meets 𝓛 T.signature (𝓡.returns ρ) (closing 𝓛 T cl)) (κs : Lfts T.signature.lifetimes) (bounds : AllOutlive T.signature.lifetimes T.signature.outlives κs) (L : Lowered (type_at T.signature.result κs)) where
   open 𝓛 use {H}
 
-  module _ {X : Type 0} (read : Res T.signature κs → X) (made : X → Res T.signature κs) (read_made : (x : X) → read (made x) ≡ x) (made-read : (y : Res T.signature κs) → made (read y) ≡ y) (inj : (y z : Res T.signature κs) → L.lowered y ≡ L.lowered z → y ≡ z) where
+  module _ {X : Type 0} (read : Res T.signature κs → X) (made : X → Res T.signature κs) (made-read : (y : Res T.signature κs) → made (read y) ≡ y) (inj : (y z : Res T.signature κs) → L.lowered y ≡ L.lowered z → y ≡ z) (one other : Res T.signature κs) (differ : one ≡ other → ⊥) where
     module _ (a : Args T.signature κs) (g : (cl κs a).ghost) (x : X) (pre : ent 𝓤 (emp 𝓤) ((cl κs a).requires g)) (tells : (y : Res T.signature κs) (ws : Lasts T κs a) → ent 𝓤 ((cl κs a).ensures g y (at_exit T κs a ws)) (fact 𝓤 (read y ≡ x))) where
-      meets : Bracket 𝓛 T.signature (𝓡.returns ρ) κs a (made x)
-      meets =
-          of_spec 𝓛 T (𝓡.returns ρ) (routine_mono 𝓤 H 𝓜 (strict 𝓤 H 𝓜 𝓡) ρ) cl met κs a g (made x) pre (λ z ws.
-          via 𝓤 (fact 𝓤 (read z ≡ x)) (tells z ws) (fact_mono 𝓤 (read z ≡ x) (z ≡ made x) (λ e. sym (made-read z) ∙ ap made e)))
+      meets : (r : Res T.signature κs) → ((z : Res T.signature κs) → read z ≡ x → z ≡ r) → Bracket 𝓛 T.signature (𝓡.returns ρ) κs a r
+      meets r is =
+          of_spec 𝓛 T (𝓡.returns ρ) (routine_mono 𝓤 H 𝓜 (strict 𝓤 H 𝓜 𝓡) ρ) cl met κs a g r pre (λ z ws.
+          via 𝓤 (fact 𝓤 (read z ≡ x)) (tells z ws) (fact_mono 𝓤 (read z ≡ x) (z ≡ r) (is z)))
 
-      pub answered : Answered 𝓛 𝓜 T.signature ρ κs bounds L a (λ y. read y ≡ x)
-      answered =
+      pub answered : (read (made x) ≡ x) ⊎ ((y : Res T.signature κs) → read y ≡ x → ⊥) → Answered 𝓛 𝓜 T.signature ρ κs bounds L a (λ y. read y ≡ x)
+      answered (inl e) =
+          let b : Bracket 𝓛 T.signature (𝓡.returns ρ) κs a (made x) = meets (made x) (λ z q. sym (made-read z) ∙ ap made q) in
           record {
-            returned = λ y back. ap read (returned 𝓛 𝓜 𝓡 T.signature ρ κs bounds L a (made x) meets inj y back) ∙ read_made x;
+            returned = λ y back. ap read (returned 𝓛 𝓜 𝓡 T.signature ρ κs bounds L a (made x) b inj y back) ∙ e;
             ends = λ σ vss passed.
-                ∥∥₁_map (returns 𝓛 𝓜 𝓡 T.signature ρ κs bounds L a (made x) meets σ vss passed) (λ t. (made x, read_made x, t.0, t.1));
+                ∥∥₁_map (returns 𝓛 𝓜 𝓡 T.signature ρ κs bounds L a (made x) b σ vss passed) (λ t. (made x, e, t.0, t.1));
+          }
+      answered (inr n) =
+          let b : Bracket 𝓛 T.signature (𝓡.returns ρ) κs a one = meets one (λ z q. absurd (n z q)) in
+          let b' : Bracket 𝓛 T.signature (𝓡.returns ρ) κs a other = meets other (λ z q. absurd (n z q)) in
+          record {
+            returned = λ y back.
+                absurd
+                (differ
+                (sym (returned 𝓛 𝓜 𝓡 T.signature ρ κs bounds L a one b inj y back)
+                ∙ returned 𝓛 𝓜 𝓡 T.signature ρ κs bounds L a other b' inj y back));
+            ends = λ σ vss passed.
+                ∥∥₁_elim (returns 𝓛 𝓜 𝓡 T.signature ρ κs bounds L a one b σ vss passed) ∥∥₁_prop (λ t.
+                ∥∥₁_elim (returns 𝓛 𝓜 𝓡 T.signature ρ κs bounds L a other b' σ vss passed) ∥∥₁_prop (λ u.
+                absurd
+                (differ
+                (inj one other (ap (λ y. y.0) (ends-one ρ (flat (types_at T.signature.params κs) vss) σ (L.lowered one, t.0) (L.lowered other, u.0) t.1 u.1))))));
           }

@@ -14,13 +14,23 @@ use contract.Monad.{fact}
 use contract.Lifetimes.{Lfts}
 use contract.Running.{Running, strict}
 use denote.Ref.{Bor}
-use Rattle.numbers.specs.Outcome.{Outcome, gives, refuses}
+use Rattle.std.specs.Prelude.{Result, Ok, Err}
+use Rattle.numbers.specs.Outcome.{Outcome}
+use Rattle.numbers.specs.declared.refusal.Refusal.{Refusal}
+use Rattle.numbers.specs.declared.refusal.Reason.{Reason}
+use Rattle.numbers.specs.declared.refusal.Reason.TheVariants.{NoValueLeft, MarkerCut, VarUIntCut, VarIntCut, AnnotationsCut, PadCut, FieldCut, ValueCut}
+use Rattle.numbers.specs.declared.refusal.Reason.TheVariants.{IntCut, NumberTooLong, BadMarker, NotAValue, NoAnnotations, AnnotationsTooLong, NoRoomForValue}
+use Rattle.numbers.specs.declared.refusal.Reason.TheVariants.{TooManyAnnotations, WrapperInWrapper, PadInWrapper, WrappedLengthDiffers, BadFloatLength}
+use Rattle.numbers.specs.declared.refusal.Reason.TheVariants.{TimestampTooShort, EmptyOrderedStruct, BadBool, NegativeZeroInt, SymbolTooLong, BadUtf8}
+use Rattle.numbers.specs.declared.refusal.Reason.TheVariants.{TooDeep, NotVersion10, HourWithoutMinute, TimestampOutOfRange, CoefficientTooLong, HasImports}
+use Rattle.numbers.specs.declared.refusal.Reason.TheVariants.{SecondSymbols, Outside, RecordTooShort, NotAContainer, InputTooLong, NotTheSystemText, NoPadsAllowed}
+use Rattle.numbers.specs.declared.refusal.Reason.TheVariants.{LimitOutOfRange, NoRoomToPack, NoRoomToWrite, NoSuchLength}
 use Rattle.framing.specs.Spans.{Spans}
 use Rattle.framing.specs.Answers.{Annotated}
 use Rattle.framing.specs.declared.encoded_value.EncodedValue.{EncodedValue}
 use Rattle.stepping.specs.Items.{Item as Answer, finish, marker, value, field}
 use Rattle.stepping.specs.Answers.{Stepped, step_of}
-use Rattle.stepping.specs.Read.{item_read, step_read}
+use Rattle.stepping.specs.Read.{places_of, item_read, step_read}
 use Rattle.stepping.specs.Runs.{cursor, Answers, Run, none, call}
 use Rattle.runs.specs.Reached.{Part, the_stream, inner, Handed, AnnotationRun, none as no_more, call as one_more, ByRules, EitherPart, Calls}
 use Rattle.runs.specs.Overwritten.{Site, ReachedSite, reached_value, reached_pad, ValueOutside, SameOutside}
@@ -28,11 +38,12 @@ use Rattle.stepping.specs.declared.cursor.Cursor.{Cursor}
 use Rattle.stepping.specs.declared.cursor.Rules.{Rules}
 use Rattle.stepping.specs.declared.cursor.Rules.TheVariants.{Stream, Sequence, Fields}
 use Rattle.stepping.specs.declared.cursor.Item.{Item}
-use Rattle.stepping.specs.declared.cursor.Item.TheVariants.{End, Marker, Value, Field, Refused}
+use Rattle.stepping.specs.declared.cursor.Item.TheVariants.{End, Marker, Value, Field}
 use Rattle.stepping.specs.declared.cursor.Step.{Step}
 use Rattle.runs.proofs.Machine as machine
 use Rattle.runs.proofs.Machine.{Answered}
-use Rattle.runs.proofs.Values.{num, parts, nth, read_refusal, choose}
+use Rattle.runs.proofs.Values.{num, parts, nth, choose, read_result}
+use Rattle.runs.proofs.Results.{one, other, differ, made as made_result, made_read as made_result_read, known as known_result}
 use Rattle.stepping.proofs.Tiling.{tiling}
 use Rattle.runs.proofs.Overwriting.{overwriting}
 use Rattle.runs.proofs.OneBody.{Stands, by_rules, one_of_many}
@@ -60,20 +71,66 @@ read-item : Val → Item
 read-item v =
     let f : ℕ → Val = λ i. nth i (parts v) in
     choose (num (f 0))
-    (End (num (f 1)) ∷ Marker (num (f 1)) (num (f 2)) (num (f 3)) (num (f 4)) ∷ Value (read-value (f 1)) ∷ Field (num (f 1)) (num (f 2)) (read-value (f 3)) ∷ [])
-    (Refused (read_refusal (f 1)))
+    (End (num (f 1)) ∷ Marker (num (f 1)) (num (f 2)) (num (f 3)) (num (f 4)) ∷ Value (read-value (f 1)) ∷ [])
+    (Field (num (f 1)) (num (f 2)) (read-value (f 3)))
 
 read_step : Val → Step
 read_step v =
-    record { item = read-item (nth 0 (parts v)); next = cursor (num (nth 0 (parts (nth 1 (parts v))))) (num (nth 1 (parts (nth 1 (parts v))))) }
+    record { item = read_result read-item (nth 0 (parts v)); next = cursor (num (nth 0 (parts (nth 1 (parts v))))) (num (nth 1 (parts (nth 1 (parts v))))) }
 
-read_back : (x : Item) (n : Cursor) → read_step (lowered (record { item = x; next = n })) ≡ record { item = x; next = n }
+refused_back : (r : Reason) (p : ℕ) (n : Cursor) → let x : Step = record { item = Err (record { reason = r; position = p }); next = n } in read_step (lowered x) ≡ x
 unfolding read-value read-item read_step
-read_back (End p) n = refl
-read_back (Marker a x y e) n = refl
-read_back (Value v) n = refl
-read_back (Field i a v) n = refl
-read_back (Refused e) n = refl
+refused_back NoValueLeft p n = refl
+refused_back MarkerCut p n = refl
+refused_back VarUIntCut p n = refl
+refused_back VarIntCut p n = refl
+refused_back AnnotationsCut p n = refl
+refused_back PadCut p n = refl
+refused_back FieldCut p n = refl
+refused_back ValueCut p n = refl
+refused_back IntCut p n = refl
+refused_back NumberTooLong p n = refl
+refused_back BadMarker p n = refl
+refused_back NotAValue p n = refl
+refused_back NoAnnotations p n = refl
+refused_back AnnotationsTooLong p n = refl
+refused_back NoRoomForValue p n = refl
+refused_back TooManyAnnotations p n = refl
+refused_back WrapperInWrapper p n = refl
+refused_back PadInWrapper p n = refl
+refused_back WrappedLengthDiffers p n = refl
+refused_back BadFloatLength p n = refl
+refused_back TimestampTooShort p n = refl
+refused_back EmptyOrderedStruct p n = refl
+refused_back BadBool p n = refl
+refused_back NegativeZeroInt p n = refl
+refused_back SymbolTooLong p n = refl
+refused_back BadUtf8 p n = refl
+refused_back TooDeep p n = refl
+refused_back NotVersion10 p n = refl
+refused_back HourWithoutMinute p n = refl
+refused_back TimestampOutOfRange p n = refl
+refused_back CoefficientTooLong p n = refl
+refused_back HasImports p n = refl
+refused_back SecondSymbols p n = refl
+refused_back Outside p n = refl
+refused_back RecordTooShort p n = refl
+refused_back NotAContainer p n = refl
+refused_back InputTooLong p n = refl
+refused_back NotTheSystemText p n = refl
+refused_back NoPadsAllowed p n = refl
+refused_back LimitOutOfRange p n = refl
+refused_back NoRoomToPack p n = refl
+refused_back NoRoomToWrite p n = refl
+refused_back NoSuchLength p n = refl
+
+read_back : (x : Result Item Refusal) (n : Cursor) → read_step (lowered (record { item = x; next = n })) ≡ record { item = x; next = n }
+unfolding read-value read-item read_step
+read_back (Ok (End p)) n = refl
+read_back (Ok (Marker a x y e)) n = refl
+read_back (Ok (Value v)) n = refl
+read_back (Ok (Field i a v)) n = refl
+read_back (Err e) n = refused_back e.reason e.position n
 
 one_value : (x y : Step) → lowered x ≡ lowered y → x ≡ y
 one_value x y e = sym (read_back x.item x.next) ∙ ap read_step e ∙ read_back y.item y.next
@@ -90,39 +147,49 @@ value_of v =
       end = v.end;
     }
 
-item_of : Outcome Answer → Item
-item_of (gives (finish p)) = End p
-item_of (gives (marker a x y e)) = Marker a x y e
-item_of (gives (value v)) = Value (value_of v)
-item_of (gives (field i a v)) = Field i a (value_of v)
-item_of (refuses n p) = Refused (record { number = n; position = p })
+item_of : Answer → Item
+item_of (finish p) = End p
+item_of (marker a x y e) = Marker a x y e
+item_of (value v) = Value (value_of v)
+item_of (field i a v) = Field i a (value_of v)
+
+item_told : (i : Answer) → places_of (item_of i) ≡ i
+unfolding item_of value_of
+item_told (finish p) = refl
+item_told (marker a x y e) = refl
+item_told (value v) = refl
+item_told (field i a v) = refl
+
+item_back : (i : Item) → item_of (places_of i) ≡ i
+unfolding item_of value_of
+item_back (End p) = refl
+item_back (Marker a x y e) = refl
+item_back (Value v) = refl
+item_back (Field i a v) = refl
 
 made : Stepped → Step
-made r = record { item = item_of r.answer; next = r.next }
-
-item_made : (o : Outcome Answer) → item_read (item_of o) ≡ o
-unfolding item_of value_of
-item_made (gives (finish p)) = refl
-item_made (gives (marker a x y e)) = refl
-item_made (gives (value v)) = refl
-item_made (gives (field i a v)) = refl
-item_made (refuses n p) = refl
-
-read_made : (r : Stepped) → step_read (made r) ≡ r
-unfolding made
-read_made r = ap (λ (o : Outcome Answer). record { answer = o; next = r.next }) (item_made r.answer)
-
-item-read : (i : Item) → item_of (item_read i) ≡ i
-unfolding item_of value_of
-item-read (End p) = refl
-item-read (Marker a x y e) = refl
-item-read (Value v) = refl
-item-read (Field i a v) = refl
-item-read (Refused e) = refl
+made r = record { item = made_result places_of item_of item_told item_back r.answer; next = r.next }
 
 made_read : (x : Step) → made (step_read x) ≡ x
 unfolding made
-made_read x = ap (λ (i : Item). record { item = i; next = x.next }) (item-read x.item)
+made_read x =
+    ap (λ (i : Result Item Refusal). record { item = i; next = x.next }) (made_result_read places_of item_of item_told item_back x.item)
+
+known : (r : Stepped) → (step_read (made r) ≡ r) ⊎ ((y : Step) → step_read y ≡ r → ⊥)
+unfolding made
+known r = go (known_result places_of item_of item_told item_back r.answer)
+  where
+    go : (item_read (made_result places_of item_of item_told item_back r.answer) ≡ r.answer) ⊎ ((y : Result Item Refusal) → item_read y ≡ r.answer → ⊥) → (step_read (made r) ≡ r) ⊎ ((y : Step) → step_read y ≡ r → ⊥)
+    go (inl e) = inl (ap (λ (o : Outcome Answer). record { answer = o; next = r.next }) e)
+    go (inr n) = inr (λ y e. n y.item (ap (λ (x : Stepped). x.answer) e))
+
+-- two steps
+refused : Refusal → Step
+refused e = record { item = Err e; next = cursor 0 0 }
+
+two : refused one ≡ refused other → ⊥
+unfolding refused
+two e = differ (ap (λ (x : Step). x.item) e)
 
 -- runs go with the answers
 pub map-run {ℓ} : {A : Cursor → Stepped → Type ℓ} {B : Cursor → Stepped → Type 0} → ((c : Cursor) (r : Stepped) → A c r → B c r) → {c : Cursor} {rs : List Stepped} → Run A c rs → Run B c rs
@@ -152,18 +219,18 @@ module _ {M : Type 1} {𝓤 : Ura M} (𝓛 : Logic 𝓤) (𝓜 : Model 𝓤 𝓛
 
   in_stream_answers : (limit : ℕ) (s : Bor (List ℕ)) (c : Cursor) → Answered 𝓛 𝓜 in-stream.signature (𝓡.env in-stream-symbol.name) κs tt lowers (c, (s, (limit, tt))) (λ x. step_read x ≡ step_of limit Stream s.now c)
   in_stream_answers limit s c =
-      machine.answered 𝓛 𝓜 𝓡 in-stream.ended (𝓡.env in-stream-symbol.name) (in-stream.clauses 𝓛 𝓜.mem 𝓡.returns) (in-stream-met.met 𝓤 𝓛 𝓜 (strict 𝓤 H 𝓜 𝓡) has.in_stream) κs tt lowers step_read made read_made made_read one_value
-      (c, (s, (limit, tt))) tt (step_of limit Stream s.now c) (id⊢ 𝓤 (emp 𝓤)) (λ x ws. id⊢ 𝓤 (fact 𝓤 (step_read x ≡ step_of limit Stream s.now c)))
+      machine.answered 𝓛 𝓜 𝓡 in-stream.ended (𝓡.env in-stream-symbol.name) (in-stream.clauses 𝓛 𝓜.mem 𝓡.returns) (in-stream-met.met 𝓤 𝓛 𝓜 (strict 𝓤 H 𝓜 𝓡) has.in_stream) κs tt lowers step_read made made_read one_value (refused one) (refused other) two
+      (c, (s, (limit, tt))) tt (step_of limit Stream s.now c) (id⊢ 𝓤 (emp 𝓤)) (λ x ws. id⊢ 𝓤 (fact 𝓤 (step_read x ≡ step_of limit Stream s.now c))) (known (step_of limit Stream s.now c))
 
   in_sequence_answers : (limit : ℕ) (s : Bor (List ℕ)) (c : Cursor) → Answered 𝓛 𝓜 in-sequence.signature (𝓡.env in-sequence-symbol.name) κs tt lowers (c, (s, (limit, tt))) (λ x. step_read x ≡ step_of limit Sequence s.now c)
   in_sequence_answers limit s c =
-      machine.answered 𝓛 𝓜 𝓡 in-sequence.ended (𝓡.env in-sequence-symbol.name) (in-sequence.clauses 𝓛 𝓜.mem 𝓡.returns) (in-sequence-met.met 𝓤 𝓛 𝓜 (strict 𝓤 H 𝓜 𝓡) has.in_sequence) κs tt lowers step_read made read_made made_read one_value
-      (c, (s, (limit, tt))) tt (step_of limit Sequence s.now c) (id⊢ 𝓤 (emp 𝓤)) (λ x ws. id⊢ 𝓤 (fact 𝓤 (step_read x ≡ step_of limit Sequence s.now c)))
+      machine.answered 𝓛 𝓜 𝓡 in-sequence.ended (𝓡.env in-sequence-symbol.name) (in-sequence.clauses 𝓛 𝓜.mem 𝓡.returns) (in-sequence-met.met 𝓤 𝓛 𝓜 (strict 𝓤 H 𝓜 𝓡) has.in_sequence) κs tt lowers step_read made made_read one_value (refused one) (refused other) two
+      (c, (s, (limit, tt))) tt (step_of limit Sequence s.now c) (id⊢ 𝓤 (emp 𝓤)) (λ x ws. id⊢ 𝓤 (fact 𝓤 (step_read x ≡ step_of limit Sequence s.now c))) (known (step_of limit Sequence s.now c))
 
   in_struct_answers : (limit : ℕ) (s : Bor (List ℕ)) (c : Cursor) → Answered 𝓛 𝓜 in-struct.signature (𝓡.env in-struct-symbol.name) κs tt lowers (c, (s, (limit, tt))) (λ x. step_read x ≡ step_of limit Fields s.now c)
   in_struct_answers limit s c =
-      machine.answered 𝓛 𝓜 𝓡 in-struct.ended (𝓡.env in-struct-symbol.name) (in-struct.clauses 𝓛 𝓜.mem 𝓡.returns) (in-struct-met.met 𝓤 𝓛 𝓜 (strict 𝓤 H 𝓜 𝓡) has.in_struct) κs tt lowers step_read made read_made made_read one_value
-      (c, (s, (limit, tt))) tt (step_of limit Fields s.now c) (id⊢ 𝓤 (emp 𝓤)) (λ x ws. id⊢ 𝓤 (fact 𝓤 (step_read x ≡ step_of limit Fields s.now c)))
+      machine.answered 𝓛 𝓜 𝓡 in-struct.ended (𝓡.env in-struct-symbol.name) (in-struct.clauses 𝓛 𝓜.mem 𝓡.returns) (in-struct-met.met 𝓤 𝓛 𝓜 (strict 𝓤 H 𝓜 𝓡) has.in_struct) κs tt lowers step_read made made_read one_value (refused one) (refused other) two
+      (c, (s, (limit, tt))) tt (step_of limit Fields s.now c) (id⊢ 𝓤 (emp 𝓤)) (λ x ws. id⊢ 𝓤 (fact 𝓤 (step_read x ≡ step_of limit Fields s.now c))) (known (step_of limit Fields s.now c))
 
   -- each answer of the program is the one that the rules define
   pub answers : (limit : ℕ) (rules : Rules) (s : Bor (List ℕ)) (c : Cursor) (r : Stepped) → Program 𝓛 𝓜 𝓡.env κs limit rules s c r → Answers limit rules s.now c r

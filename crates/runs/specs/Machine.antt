@@ -7,10 +7,15 @@ use prog.Routine.{Routine, ends}
 use types.Logic.{Logic}
 use contract.Lifetimes.{Lfts, Shares, AllOutlive}
 use contract.Adequate.{Satisfies}
-use denote.RattleType.{flat}
+use denote.Param.Laws.{Told}
+use denote.RattleType.{RattleType, flat}
 use denote.Signature.{Signature, type_at, types_at}
 use denote.Lowered.{Lowered}
 use denote.Triple.Entry.{Args, Vals, Res, on_entry}
+
+-- what a type's machine values are, for the results that have values of the type as parts
+abbrev pub told : {R : RattleType} → Lowered R → Told R
+told L = record { val = L.lowered; tells = L.val_is }
 
 -- S is the function's signature and ρ its routine, and L says the machine's value of each result
 module _ {M : Type 1} {𝓤 : Ura M} (𝓛 : Logic 𝓤) (𝓜 : Model 𝓤 𝓛.H) (S : Signature) (ρ : Routine) (κs : Lfts S.lifetimes)

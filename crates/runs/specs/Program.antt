@@ -2,15 +2,21 @@
 -- `program_overwriting`, `program_one_body` and `program_ends` of proofs/Program.antt. As a function's statement is, they are for
 -- every model of the machine and every environment that has the functions' code.
 -- Assumes nothing.
-use Rattle.std.specs.Prelude.{ℕ, ◌≡◌, List}
+use Rattle.std.specs.Prelude.{ℕ, ◌≡◌, List, Option, Result}
 use seplogic.Ra.Ura.{Ura}
 use prog.Model.{Model}
 use prog.Routine.{Env}
 use prog.Wired.{Wired}
 use types.Logic.{Logic}
 use contract.Lifetimes.{Lfts}
+use denote.Lowered.{Lowered}
+use denote.Signature.{type_at}
+use Rattle.std.proofs.option.Option.TheLaws as option-laws
+use Rattle.std.proofs.result.Result.TheLaws as result-laws
 use Rattle.std.specs.Borrow.{Bor}
 use Rattle.numbers.specs.Outcome.{Outcome}
+use Rattle.numbers.specs.declared.refusal.Refusal.{Refusal}
+use Rattle.numbers.proofs.refusal.Refusal.TheLaws as refusal-laws
 use Rattle.framing.specs.Answers.{Annotated, read_annotation}
 use Rattle.framing.specs.Read.{annotation_read}
 use Rattle.framing.specs.declared.annotations_iterator.Annotation.{Annotation}
@@ -33,7 +39,7 @@ use Rattle.stepping.specs.contracts.cursor.Cursor.next_in_struct as in-struct
 use Rattle.stepping.proofs.cursor.Cursor.next_in_struct.Symbol as in-struct-symbol
 use Rattle.values.specs.Read.{body_read, scalar_read}
 use Rattle.values.specs.Scalars.{Opened, step_in, Scalar, read_scalar, part_of}
-use Rattle.values.specs.declared.value.Body.{Body as BodyEnum}
+use Rattle.values.specs.declared.value.Body.{Body}
 use Rattle.values.specs.declared.value.Scalar.{Scalar as ScalarEnum}
 use Rattle.values.proofs.value.Body.TheLaws as body-laws
 use Rattle.values.specs.contracts.value.step_in as entering
@@ -42,6 +48,7 @@ use Rattle.values.proofs.value.Scalar.TheLaws as scalar-laws
 use Rattle.values.specs.contracts.value.read as reading
 use Rattle.values.proofs.value.read.Symbol as reading-symbol
 use Rattle.runs.specs.Machine as machine
+use Rattle.runs.specs.Machine.{told}
 use Rattle.runs.specs.Reached.{ReachedBody, Agree, In, Entries, SameAnswers}
 use Rattle.runs.specs.Overwritten.{Site, Sites, Over, SameOutside}
 
@@ -53,6 +60,20 @@ pub record HasEntries (γ : Env) : Type 0 where
   pub annotation : Wired γ annotation-symbol.code
   pub entering : Wired γ entering-symbol.code
   pub reading : Wired γ reading-symbol.code
+
+-- the machine's values of the results of the annotation step, of stepping in and of the scalar reading, by those of their parts
+abbrev pub annotation_lowers : (κs : Lfts 1) → Lowered (type_at annotation.signature.result κs)
+annotation_lowers κs =
+    result-laws.lowers _ _ (option-laws.the_row_laws _ annotation-laws.the_row_laws) refusal-laws.the_row_laws
+    (told (option-laws.lowers _ annotation-laws.the_row_laws (told annotation-laws.lowers))) (told refusal-laws.lowers)
+
+abbrev pub body_lowers : (κs : Lfts 1) → Lowered (type_at entering.signature.result κs)
+body_lowers κs =
+    result-laws.lowers _ _ body-laws.the_row_laws refusal-laws.the_row_laws (told body-laws.lowers) (told refusal-laws.lowers)
+
+abbrev pub scalar_lowers : (κs : Lfts 1) → Lowered (type_at reading.signature.result κs)
+scalar_lowers κs =
+    result-laws.lowers _ _ scalar-laws.the_row_laws refusal-laws.the_row_laws (told scalar-laws.lowers) (told refusal-laws.lowers)
 
 -- γ says what each call means: the six entries are called in it by their names
 module _ {M : Type 1} {𝓤 : Ura M} (𝓛 : Logic 𝓤) (𝓜 : Model 𝓤 𝓛.H) (γ : Env) (κs : Lfts 1) where
@@ -69,22 +90,22 @@ module _ {M : Type 1} {𝓤 : Ura M} (𝓛 : Logic 𝓤) (𝓜 : Model 𝓤 𝓛
   -- o is what the machine's answer to an annotation step on s, at `at` of the bytes that end at `end`, is read as
   abbrev pub Annotates : Bor (List ℕ) → ℕ → ℕ → Outcome Annotated → Type 1
   Annotates s end at o =
-      (x : Annotation)
-      × machine.Returned 𝓛 𝓜 annotation.signature (γ annotation-symbol.name) κs tt annotation-laws.lowers (s, (at, (end, tt))) x
+      (x : Result (Option Annotation) Refusal)
+      × machine.Returned 𝓛 𝓜 annotation.signature (γ annotation-symbol.name) κs tt (annotation_lowers κs) (s, (at, (end, tt))) x
       × (annotation_read x ≡ o)
 
   -- and to stepping in, in the part lo..hi at `at`
   abbrev pub Enters : ℕ → Bor (List ℕ) → ℕ → ℕ → ℕ → Outcome Opened → Type 1
   Enters limit s lo hi at o =
-      (x : BodyEnum)
-      × machine.Returned 𝓛 𝓜 entering.signature (γ entering-symbol.name) κs tt body-laws.lowers (s, (lo, (hi, (at, (limit, tt))))) x
+      (x : Result Body Refusal)
+      × machine.Returned 𝓛 𝓜 entering.signature (γ entering-symbol.name) κs tt (body_lowers κs) (s, (lo, (hi, (at, (limit, tt))))) x
       × (body_read x ≡ o)
 
   -- and to the scalar reading
   abbrev pub Reads : ℕ → Bor (List ℕ) → ℕ → ℕ → ℕ → Outcome Scalar → Type 1
   Reads limit s lo hi at o =
-      (x : ScalarEnum)
-      × machine.Returned 𝓛 𝓜 reading.signature (γ reading-symbol.name) κs tt scalar-laws.lowers (s, (lo, (hi, (at, (limit, tt))))) x
+      (x : Result ScalarEnum Refusal)
+      × machine.Returned 𝓛 𝓜 reading.signature (γ reading-symbol.name) κs tt (scalar_lowers κs) (s, (lo, (hi, (at, (limit, tt))))) x
       × (scalar_read x ≡ o)
 
   -- the bytes of the map at the span that the machine's scalar reading returned
@@ -143,11 +164,11 @@ module _ {M : Type 1} {𝓤 : Ura M} (𝓛 : Logic 𝓤) (𝓜 : Model 𝓤 𝓛
   pub record ProgramEnds : Type 1 where
     pub steps : (limit : ℕ) (rules : Rules) (s : Bor (List ℕ)) (c : Cursor) → StepEnds limit rules s c
     pub annotation : (s : Bor (List ℕ)) (at end : ℕ)
-        → machine.Ends 𝓛 𝓜 annotation.signature (γ annotation-symbol.name) κs tt annotation-laws.lowers (s, (at, (end, tt)))
+        → machine.Ends 𝓛 𝓜 annotation.signature (γ annotation-symbol.name) κs tt (annotation_lowers κs) (s, (at, (end, tt)))
         (λ x. annotation_read x ≡ read_annotation s.now at end)
     pub entering : (limit : ℕ) (s : Bor (List ℕ)) (lo hi at : ℕ)
-        → machine.Ends 𝓛 𝓜 entering.signature (γ entering-symbol.name) κs tt body-laws.lowers (s, (lo, (hi, (at, (limit, tt)))))
+        → machine.Ends 𝓛 𝓜 entering.signature (γ entering-symbol.name) κs tt (body_lowers κs) (s, (lo, (hi, (at, (limit, tt)))))
         (λ x. body_read x ≡ step_in limit s.now lo hi at)
     pub reading : (limit : ℕ) (s : Bor (List ℕ)) (lo hi at : ℕ)
-        → machine.Ends 𝓛 𝓜 reading.signature (γ reading-symbol.name) κs tt scalar-laws.lowers (s, (lo, (hi, (at, (limit, tt)))))
+        → machine.Ends 𝓛 𝓜 reading.signature (γ reading-symbol.name) κs tt (scalar_lowers κs) (s, (lo, (hi, (at, (limit, tt)))))
         (λ x. scalar_read x ≡ read_scalar limit s.now lo hi at)

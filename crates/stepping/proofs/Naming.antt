@@ -19,7 +19,6 @@ use Rattle.framing.proofs.Bounds.{FrameIn, pad_in, value_in, frame_each}
 use Rattle.stepping.specs.Items.{Item, finish, value}
 use Rattle.stepping.specs.Answers.{Tile, skip, hand, version_passes, marker_at, as_tile, framed_at, as_field, named_at, field_at, tile_at, Found, stop, on_tile, skip_pads, found, step_of, answer_at}
 use Rattle.stepping.specs.Names.{followed, field_id, name_at, name_from, item_by, tile_by, tile_behind, is_marker, tile_from, found_from, answer_from}
-use Rattle.stepping.specs.Private.Tiles.{handed}
 use Rattle.stepping.specs.declared.cursor.Rules.{Rules}
 use Rattle.stepping.specs.declared.cursor.Rules.TheVariants.{Stream, Sequence, Fields}
 use Rattle.stepping.proofs.PadSkipping.{skipping, of_skipping}
@@ -175,15 +174,15 @@ module _ (limit : ℕ) (rules : Rules) (s : List ℕ) (at end : ℕ) (u : Unsign
   unfolding found_from
   entered = rw (g, inside s at end (omega arith) m, lt-ltb at end l)
 
-  on_item : (o : Outcome Item) → (on_tile at (skip_pads limit (end - at) rules s end) (and_then o handed)).answer ≡ o
-  on_item (gives i) = refl
-  on_item (refuses n p) = refl
+  -- it is what is made of the tile there
+  answered : (t : Outcome Tile) → tile_from limit rules s at end u ≡ t → answer_from limit rules s at end u ≡ (on_tile at (skip_pads limit (end - at) rules s end) t).answer
+  answered t h = ap (λ (f : Found). f.answer) entered ∙ ap (λ (x : Outcome Tile). (on_tile at (skip_pads limit (end - at) rules s end) x).answer) h
 
-  pub from_item : (o : Outcome Item) → and_then o handed ≡ tile_from limit rules s at end u → o ≡ answer_from limit rules s at end u
-  from_item o h =
-      sym (on_item o)
-      ∙ ap (λ (t : Outcome Tile). (on_tile at (skip_pads limit (end - at) rules s end) t).answer) h
-      ∙ sym (ap (λ (f : Found). f.answer) entered)
+  pub from_hand : {i : Item} → tile_from limit rules s at end u ≡ gives (hand i) → answer_from limit rules s at end u ≡ gives i
+  from_hand {i} h = answered (gives (hand i)) h
+
+  pub from_refusal : {n p : ℕ} → tile_from limit rules s at end u ≡ refuses n p → answer_from limit rules s at end u ≡ refuses n p
+  from_refusal {n} {p} h = answered (refuses n p) h
 
   pub from_pad : (id b e : ℕ) → tile_from limit rules s at end u ≡ gives (skip b e) → answer_from limit rules s e end (record { value = id; next = e }) ≡ answer_from limit rules s at end u
   unfolding step_of
@@ -215,3 +214,6 @@ from_stop limit rules s end u g m = rw (g, inside s end end (omega arith) m, le-
 
 pub from_part_end : (limit : ℕ) (rules : Rules) (s : List ℕ) (end : ℕ) (u : Unsigned) → out_of_range limit ≡ false → end ≤ length s → gives (finish end) ≡ answer_from limit rules s end end u
 from_part_end limit rules s end u g m = sym (ap (λ (f : Found). f.answer) (from_stop limit rules s end u g m))
+
+-- what the step's own proof goes by
+pub ruleset step_laws = (from_unlimited, from_nowhere, from_hand, from_refusal, from_pad, from_part_end, pad_onward, inside_order, inside_end)

@@ -12,7 +12,7 @@ use Rattle.numbers.specs.Outcome.{Outcome, gives, refuses, and_then, outside_of}
 use Rattle.numbers.proofs.Outcomes.{by_test, inside, inside_order, inside_end}
 use Rattle.framing.specs.Limits.{out_of_range}
 use Rattle.stepping.specs.Items.{Item, finish}
-use Rattle.stepping.specs.Answers.{Tile, skip, hand, tile_at, Found, passing, stop, on_tile, skip_pads, found, after, step_of}
+use Rattle.stepping.specs.Answers.{Tile, skip, hand, tile_at, Found, passing, stop, on_tile, skip_pads, found, step_of}
 use Rattle.stepping.specs.Private.Tiles.{handed}
 use Rattle.stepping.specs.declared.cursor.Cursor.{Cursor}
 use Rattle.stepping.specs.declared.cursor.Rules.{Rules}
@@ -90,8 +90,3 @@ answered limit rules s at hi (refuses n p) l h = at_refusal l (sym h)
 pub answer_is : (limit : ℕ) (rules : Rules) (s : List ℕ) (at hi : ℕ) (o : Outcome Item) (f : Found) → out_of_range limit ≡ false → at ≤ hi → hi ≤ length s → Skipping limit rules s hi at f → f.answer ≡ o → o ≡ (step_of limit rules s (record { at = at; end = hi })).answer
 unfolding step_of
 answer_is limit rules s at hi o f g l m w q = sym q ∙ ap (λ (x : Found). x.answer) (of_skipping limit rules s hi g l m w)
-
--- a step's answer settles its cursor
-pub step_is : (limit : ℕ) (rules : Rules) (s : List ℕ) (c : Cursor) (o : Outcome Item) → o ≡ (step_of limit rules s c).answer → record { answer = o; next = after c o } ≡ step_of limit rules s c
-unfolding step_of
-step_is limit rules s c o q = ap (λ (x : Outcome Item). record { answer = x; next = after c x }) q

@@ -1,27 +1,34 @@
--- What each case of an enum of this layer says in the scope paper's terms.
+-- What each type of this layer says in the scope paper's terms.
 -- Assumes nothing.
-use Rattle.numbers.specs.Outcome.{Outcome, gives}
+use Rattle.std.specs.Prelude.{Result}
+use Rattle.numbers.specs.Outcome.{Outcome}
 use Rattle.numbers.specs.Answers.{Unsigned}
-use Rattle.numbers.specs.Read.{refusal_read}
+use Rattle.numbers.specs.Read.{outcome}
+use Rattle.numbers.specs.declared.refusal.Refusal.{Refusal}
 use Rattle.framing.specs.Read.{spans_of}
 use Rattle.stepping.specs.Items.{Item, finish, marker, value, field}
 use Rattle.stepping.specs.Answers.{Stepped}
 use Rattle.stepping.specs.declared.cursor.Item.{Item as ItemEnum}
-use Rattle.stepping.specs.declared.cursor.Item.TheVariants.{End, Marker, Value, Field, Refused}
-use Rattle.stepping.specs.declared.cursor.Named.{Named}
-use Rattle.stepping.specs.declared.cursor.Named.TheVariants.{At as NameAt, Refused as NameRefused}
+use Rattle.stepping.specs.declared.cursor.Item.TheVariants.{End, Marker, Value, Field}
+use Rattle.stepping.specs.declared.cursor.Name.{Name}
 use Rattle.stepping.specs.declared.cursor.Step.{Step}
 
-abbrev pub item_read : ItemEnum → Outcome Item
-item_read (End p) = gives (finish p)
-item_read (Marker a major minor e) = gives (marker a major minor e)
-item_read (Value v) = gives (value (spans_of v))
-item_read (Field id a v) = gives (field id a (spans_of v))
-item_read (Refused e) = refusal_read e
+-- an item's places
+abbrev pub places_of : ItemEnum → Item
+places_of (End p) = finish p
+places_of (Marker a major minor e) = marker a major minor e
+places_of (Value v) = value (spans_of v)
+places_of (Field id a v) = field id a (spans_of v)
 
-abbrev pub named_read : Named → Outcome Unsigned
-named_read (NameAt i n) = gives (record { value = i; next = n })
-named_read (NameRefused e) = refusal_read e
+abbrev pub item_read : Result ItemEnum Refusal → Outcome Item
+item_read = outcome places_of
+
+-- a name's ID, and where it ends
+abbrev pub name_of : Name → Unsigned
+name_of n = record { value = n.id; next = n.next }
+
+abbrev pub named_read : Result Name Refusal → Outcome Unsigned
+named_read = outcome name_of
 
 abbrev pub step_read : Step → Stepped
 step_read r = record { answer = item_read r.item; next = r.next }

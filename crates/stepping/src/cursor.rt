@@ -1,70 +1,84 @@
 // A cursor that is stepped through a stream, a list's or sexp's body, or a struct's body.
 //
-// `limit` is the most bytes that a value's annotations may have.
-ghost use Rattle.std.specs.Prelude.{◌≡◌, false, ◌+◌, ◌≤◌, ◌<◌, length};
-ghost use Rattle.numbers.specs.Outcome.{gives, refuses, and_then};
+// `limit` is the most bytes that a value's annotations may have. A part's rules, its slice and its end are parameters of their own, as callers have them: a
+// struct of them would be made at each call and taken apart in each contract.
+ghost use Rattle.std.specs.Prelude.{◌≡◌, false, ◌+◌, ◌≤◌, ◌<◌, length, OkIff};
 ghost use Rattle.framing.specs.Limits.{out_of_range};
-ghost use Rattle.framing.specs.Read.{spans_of, frame_read};
+ghost use Rattle.framing.specs.Read.{spans_of, frame_of};
+ghost use Rattle.numbers.specs.Outcome.{and_then};
 ghost use Rattle.stepping.specs.Answers.{version_passes, marker_at, after, step_of};
+ghost use Rattle.stepping.specs.Items.{item_end};
 ghost use Rattle.stepping.specs.Kinds.{rules_of, part_kind};
 ghost use Rattle.stepping.specs.Leaving.{left_of, is_last};
 ghost use Rattle.stepping.specs.Names.{field_id, name_at, name_from, item_by, tile_by, is_marker, tile_from, answer_from};
-ghost use Rattle.stepping.specs.Read.{item_read, named_read, step_read};
-ghost use Rattle.stepping.specs.Private.Tiles.{tile_read};
+ghost use Rattle.stepping.specs.Read.{places_of, item_read, name_of, named_read, step_read};
+ghost use Rattle.stepping.specs.Private.Tiles.{handed, tile_of, tile_read};
 
 use framing::binary_buffer::read_frame;
-use framing::encoded_value::{EncodedValue, Frame};
+use framing::encoded_value::{EncodedValue, Frame, NopPad};
 use framing::limits::out_of_range;
 use numbers::binary_buffer::{outside, read_var_uint};
-use numbers::refusal::{
-    BAD_MARKER, FIELD_CUT, LIMIT_OUT_OF_RANGE, MARKER_CUT, NOT_VERSION_1_0, OUTSIDE, Refusal,
-};
-use numbers::var_uint::VarUInt;
+use numbers::refusal::{Reason, Refusal};
 
 // The rules of a part: a stream, the body of a list or a sexp, the body of a struct.
-#[derive(Clone, Copy)]
+#[derive(Clone, Copy, Debug, PartialEq, Eq)]
 pub enum Rules {
     Stream,
     Sequence,
     Fields,
 }
 
-// The last of the kinds of a part.
-pub const LAST_KIND: u64 = 2;
+// A kind that no part has.
+#[derive(Clone, Copy, Debug, PartialEq, Eq)]
+pub struct NoSuchKind;
 
-// The rules of a part of this kind: 0 a stream, 1 the body of a list or a sexp, 2 the body of a struct. Callers refuse a kind above 2.
+// The rules of a part of this kind: 0 a stream, 1 the body of a list or a sexp, 2 the body of a struct.
+impl TryFrom<u64> for Rules {
+    type Error = NoSuchKind;
+
+    ghost try_from_gives = { λ kind r. OkIff r (kind ≤ 2) (rules_of kind) };
+
+    fn try_from(kind: u64) -> Result<Rules, NoSuchKind> {
+        if 2 < kind {
+            return Err(NoSuchKind);
+        }
+        Ok(rules_of(kind))
+    }
+}
+
+// The rules of a part of this kind, where the kind is not tested: those of a struct's body for each that no part has.
 pub fn rules_of(kind: u64) -> Rules
     ensures { result ≡ rules_of kind }
 {
-    if kind == 0 {
-        return Rules::Stream;
+    match kind {
+        0 => Rules::Stream,
+        1 => Rules::Sequence,
+        _ => Rules::Fields,
     }
-    if kind == 1 {
-        return Rules::Sequence;
-    }
-    Rules::Fields
 }
 
 // The kind of a part with these rules.
-pub fn part_kind(rules: Rules) -> u64
-    ensures { result ≡ part_kind rules }
-{
-    match rules {
-        Rules::Stream => 0,
-        Rules::Sequence => 1,
-        Rules::Fields => 2,
+impl From<Rules> for u64 {
+    ghost from_gives = { λ rules kind. kind ≡ part_kind rules };
+
+    fn from(rules: Rules) -> u64 {
+        match rules {
+            Rules::Stream => 0,
+            Rules::Sequence => 1,
+            Rules::Fields => 2,
+        }
     }
 }
 
 // A position in a part, and the part's end.
-#[derive(Clone, Copy)]
+#[derive(Clone, Copy, Debug, PartialEq, Eq)]
 pub struct Cursor {
     pub at: usize,
     pub end: usize,
 }
 
-// What a step answers.
-#[derive(Clone, Copy)]
+// What a step hands out.
+#[derive(Clone, Copy, Debug, PartialEq, Eq)]
 pub enum Item {
     // Nothing is left; the position is the part's end.
     End {
@@ -85,155 +99,145 @@ pub enum Item {
         start: usize,
         value: EncodedValue,
     },
-    Refused(Refusal),
+}
+
+impl Item {
+    // Where it ends.
+    fn end(self) -> usize
+        ensures { result ≡ item_end (places_of self) }
+    {
+        match self {
+            Item::End { position } => position,
+            Item::Marker { end, .. } => end,
+            Item::Value(value) | Item::Field { value, .. } => value.end,
+        }
+    }
 }
 
 // Where an answer leaves its caller: behind an item at its end, or nowhere, behind the end and behind a refusal.
-#[derive(Clone, Copy)]
-pub enum Left {
-    At(usize),
-    Over,
-}
-
-pub fn left_by(item: Item) -> Left
+pub fn left_by(item: Result<Item, Refusal>) -> Option<usize>
     ensures { result ≡ left_of (item_read item) }
 {
     match item {
-        Item::End { position: _ } => Left::Over,
-        Item::Marker {
-            start: _,
-            major: _,
-            minor: _,
-            end,
-        } => Left::At(end),
-        Item::Value(value) => Left::At(value.end),
-        Item::Field {
-            id: _,
-            start: _,
-            value,
-        } => Left::At(value.end),
-        Item::Refused(_) => Left::Over,
+        Ok(Item::End { .. }) | Err(_) => None,
+        Ok(item) => Some(item.end()),
     }
 }
 
 // Whether nothing is to come behind an answer: it is the end or a refusal.
-pub fn is_last(item: Item) -> bool
+pub fn is_last(item: Result<Item, Refusal>) -> bool
     ensures { result ≡ is_last (item_read item) }
 {
-    match left_by(item) {
-        Left::At(_) => false,
-        Left::Over => true,
-    }
+    left_by(item).is_none()
 }
 
 // An answer, and the cursor for the next step: the one given where the step is refused.
-#[derive(Clone, Copy)]
+#[derive(Clone, Copy, Debug, PartialEq, Eq)]
 pub struct Step {
-    pub item: Item,
+    pub item: Result<Item, Refusal>,
     pub next: Cursor,
 }
 
 // What the rules of a part want before a pad or a value, its name: in a struct's body a field ID, elsewhere nothing, with 0 for the ID; and where it ends.
-#[derive(Clone, Copy)]
-pub enum Named {
-    At { id: usize, next: usize },
-    Refused(Refusal),
+#[derive(Clone, Copy, Debug, PartialEq, Eq)]
+pub struct Name {
+    pub id: usize,
+    pub next: usize,
 }
 
-// What stands at a position: a pad, or what the step answers.
+// What stands at a position: a pad, or what the step hands out.
 #[derive(Clone, Copy)]
 enum Tile {
-    Pad { body: usize, end: usize },
+    Pad(NopPad),
     Item(Item),
-}
-
-fn refused(number: u64, position: usize) -> Tile
-    ensures { tile_read result ≡ refuses number position }
-{
-    Tile::Item(Item::Refused(Refusal { number, position }))
 }
 
 // Whether a marker with these two numbers passes: that of version 1.0 alone.
 fn version_passes(major: u8, minor: u8) -> bool
     ensures { result ≡ version_passes major minor }
 {
-    if major != 1 {
-        return false;
-    }
-    minor == 0
+    major == 1 && minor == 0
 }
 
 // The version marker that begins at `at` with E0.
-fn read_ivm(s: &[u8], at: usize, end: usize) -> Tile
+#[tactic(auto, unfolding(crate::specs::Answers::marker_at))]
+fn read_ivm(s: &[u8], at: usize, end: usize) -> Result<Item, Refusal>
     requires { (at < end) × (end ≤ length s.now) }
-    ensures { tile_read result ≡ marker_at s.now at end }
+    ensures { and_then (item_read result) handed ≡ marker_at s.now at end }
 {
     if end - at < 4 {
-        return refused(MARKER_CUT, at);
+        return Err(Refusal {
+            reason: Reason::MarkerCut,
+            position: at,
+        });
     }
     if s[at + 3] != 0xEA {
-        return refused(BAD_MARKER, at);
+        return Err(Refusal {
+            reason: Reason::BadMarker,
+            position: at,
+        });
     }
     let major = s[at + 1];
     let minor = s[at + 2];
     if !version_passes(major, minor) {
-        return refused(NOT_VERSION_1_0, at);
+        return Err(Refusal {
+            reason: Reason::NotVersion10,
+            position: at,
+        });
     }
-    let after = at + 4;
-    Tile::Item(Item::Marker {
+    Ok(Item::Marker {
         start: at,
         major,
         minor,
-        end: after,
+        end: at + 4,
     })
 }
 
 // The field ID at `at`, where something follows it.
-fn read_field_id(s: &[u8], at: usize, end: usize) -> Named
+#[tactic(auto, unfolding(crate::specs::Names::field_id, crate::specs::Names::followed))]
+fn read_field_id(s: &[u8], at: usize, end: usize) -> Result<Name, Refusal>
     ensures { named_read result ≡ field_id s.now at end }
 {
-    match read_var_uint(s, at, end) {
-        VarUInt::Value { value, next } => {
-            if end <= next {
-                return Named::Refused(Refusal {
-                    number: FIELD_CUT,
-                    position: end,
-                });
-            }
-            Named::At { id: value, next }
-        }
-        VarUInt::Refused(refusal) => Named::Refused(refusal),
+    let id = read_var_uint(s, at, end)?;
+    if id.next == end {
+        return Err(Refusal {
+            reason: Reason::FieldCut,
+            position: end,
+        });
     }
+    Ok(Name {
+        id: id.value,
+        next: id.next,
+    })
 }
 
 // The name of what begins at `at`.
-pub fn read_name(rules: Rules, s: &[u8], at: usize, end: usize) -> Named
+pub fn read_name(rules: Rules, s: &[u8], at: usize, end: usize) -> Result<Name, Refusal>
     ensures { named_read result ≡ name_at rules s.now at end }
 {
     match rules {
-        Rules::Stream => Named::At { id: 0, next: at },
-        Rules::Sequence => Named::At { id: 0, next: at },
+        Rules::Stream | Rules::Sequence => Ok(Name { id: 0, next: at }),
         Rules::Fields => read_field_id(s, at, end),
     }
 }
 
-// That name, which is not read again where it was read before: then its ID is `id`, and it ends at `next`, behind `at`.
-fn name_from(rules: Rules, s: &[u8], at: usize, id: usize, next: usize, end: usize) -> Named
-    ensures { named_read result ≡ name_from rules s.now at end (record { value = id; next = next }) }
+// That name, which is not read again where it was read before: then it is `name`, which ends behind `at`.
+#[tactic(auto, unfolding(crate::specs::Names::name_from))]
+fn name_from(rules: Rules, s: &[u8], at: usize, name: Name, end: usize) -> Result<Name, Refusal>
+    ensures { named_read result ≡ name_from rules s.now at end (name_of name) }
 {
-    if at < next {
-        return Named::At { id, next };
+    if at < name.next {
+        return Ok(name);
     }
     read_name(rules, s, at, end)
 }
 
 // The item that a value behind a name is, by the rules of the part.
 pub fn item_of(rules: Rules, at: usize, id: usize, value: EncodedValue) -> Item
-    ensures { item_read result ≡ gives (item_by rules at id (spans_of value)) }
+    ensures { places_of result ≡ item_by rules at id (spans_of value) }
 {
     match rules {
-        Rules::Stream => Item::Value(value),
-        Rules::Sequence => Item::Value(value),
+        Rules::Stream | Rules::Sequence => Item::Value(value),
         Rules::Fields => Item::Field {
             id,
             start: at,
@@ -244,12 +248,11 @@ pub fn item_of(rules: Rules, at: usize, id: usize, value: EncodedValue) -> Item
 
 // The tile that a frame is, by the rules of the part.
 fn tile_of(rules: Rules, at: usize, id: usize, frame: Frame) -> Tile
-    ensures { tile_read result ≡ and_then (frame_read frame) (tile_by rules at id) }
+    ensures { tile_read (Ok result) ≡ tile_by rules at id (frame_of frame) }
 {
     match frame {
-        Frame::Pad { body, end } => Tile::Pad { body, end },
+        Frame::Pad(pad) => Tile::Pad(pad),
         Frame::Value(value) => Tile::Item(item_of(rules, at, id, value)),
-        Frame::Refused(refusal) => Tile::Item(Item::Refused(refusal)),
     }
 }
 
@@ -259,72 +262,48 @@ fn is_marker(rules: Rules, byte: u8) -> bool
 {
     match rules {
         Rules::Stream => byte == 0xE0,
-        Rules::Sequence => false,
-        Rules::Fields => false,
+        Rules::Sequence | Rules::Fields => false,
     }
 }
 
 // What begins at `at`, by the rules of the part; its name may be read, as `name_from` has it.
+#[tactic(auto, unfolding(crate::specs::Names::tile_from, crate::specs::Names::tile_behind))]
 fn read_tile(
     rules: Rules,
     s: &[u8],
     at: usize,
-    id: usize,
-    next: usize,
+    name: Name,
     end: usize,
     limit: usize,
-) -> Tile
+) -> Result<Tile, Refusal>
     requires { (out_of_range limit ≡ false) × (at < end) × (end ≤ length s.now) }
-    ensures { tile_read result ≡ tile_from limit rules s.now at end (record { value = id; next = next }) }
+    ensures { tile_read result ≡ tile_from limit rules s.now at end (name_of name) }
 {
     if is_marker(rules, s[at]) {
-        return read_ivm(s, at, end);
+        let marker = read_ivm(s, at, end)?;
+        return Ok(Tile::Item(marker));
     }
-    match name_from(rules, s, at, id, next, end) {
-        Named::At {
-            id: named,
-            next: behind,
-        } => tile_of(rules, at, named, read_frame(s, behind, end, limit)),
-        Named::Refused(refusal) => Tile::Item(Item::Refused(refusal)),
-    }
+    let name = name_from(rules, s, at, name, end)?;
+    let frame = read_frame(s, name.next, end, limit)?;
+    Ok(tile_of(rules, at, name.id, frame))
 }
 
 // The cursor that an answer leaves.
-pub fn after_item(cursor: Cursor, item: Item) -> Cursor
+pub fn after_item(cursor: Cursor, item: Result<Item, Refusal>) -> Cursor
     ensures { result ≡ after cursor (item_read item) }
 {
     match item {
-        Item::End { position } => Cursor {
-            at: position,
+        Ok(item) => Cursor {
+            at: item.end(),
             end: cursor.end,
         },
-        Item::Marker {
-            start: _,
-            major: _,
-            minor: _,
-            end,
-        } => Cursor {
-            at: end,
-            end: cursor.end,
-        },
-        Item::Value(value) => Cursor {
-            at: value.end,
-            end: cursor.end,
-        },
-        Item::Field {
-            id: _,
-            start: _,
-            value,
-        } => Cursor {
-            at: value.end,
-            end: cursor.end,
-        },
-        Item::Refused(_) => cursor,
+        Err(_) => cursor,
     }
 }
 
 // What the step at `at` in the part that ends at `end` answers: past the pads to the next item, the end or a refusal. The name of what begins at `at` may be
 // read: then its ID is `id`, and it ends at `next`, behind `at`.
+#[tactic(auto, using(crate::proofs::Naming::step_laws))]
 pub fn item_from(
     rules: Rules,
     s: &[u8],
@@ -333,45 +312,45 @@ pub fn item_from(
     next: usize,
     end: usize,
     limit: usize,
-) -> Item
+) -> Result<Item, Refusal>
     ensures { item_read result ≡ answer_from limit rules s.now at end (record { value = id; next = next }) }
 {
     if out_of_range(limit) {
-        return Item::Refused(Refusal {
-            number: LIMIT_OUT_OF_RANGE,
+        return Err(Refusal {
+            reason: Reason::LimitOutOfRange,
             position: 0,
         });
     }
     if outside(s, at, end) {
-        return Item::Refused(Refusal {
-            number: OUTSIDE,
+        return Err(Refusal {
+            reason: Reason::Outside,
             position: 0,
         });
     }
     let mut from = at;
-    let mut behind = next;
+    let mut name = Name { id, next };
     while from < end {
-        match read_tile(rules, s, from, id, behind, end, limit) {
-            Tile::Pad { body: _, end: past } => {
-                from = past;
-                behind = past;
+        match read_tile(rules, s, from, name, end, limit)? {
+            Tile::Pad(pad) => {
+                from = pad.end;
+                name.next = pad.end;
             }
-            Tile::Item(item) => {
-                return item;
-            }
+            Tile::Item(item) => return Ok(item),
         }
     }
-    Item::End { position: end }
+    Ok(Item::End { position: end })
 }
 
 // What that step answers, of whose name nothing is read.
-pub fn item_at(rules: Rules, s: &[u8], at: usize, end: usize, limit: usize) -> Item
+#[tactic(auto, using(crate::proofs::Naming::answer_unread))]
+pub fn item_at(rules: Rules, s: &[u8], at: usize, end: usize, limit: usize) -> Result<Item, Refusal>
     ensures { item_read result ≡ (step_of limit rules s.now (record { at = at; end = end })).answer }
 {
     item_from(rules, s, at, 0, at, end, limit)
 }
 
 // One step: its answer, and the cursor that it leaves.
+#[tactic(auto, unfolding(crate::specs::Answers::step_of))]
 fn next_item(rules: Rules, s: &[u8], cursor: Cursor, limit: usize) -> Step
     ensures { step_read result ≡ step_of limit rules s.now cursor }
 {

@@ -3,15 +3,16 @@
 -- Assumes nothing.
 use Prim.Native.Nat.{ℕ, ◌+◌, ◌≤◌, ◌<◌}
 use native.Mathlib.Omega.{arith}
-use mathlib.Core.Path.{◌≡◌, refl}
-use mathlib.Core.Bool.{Bool, true, false}
+use mathlib.Core.Path.{◌≡◌, refl, subst}
+use mathlib.Core.Bool.{Bool, true, false, true≢false}
 use mathlib.Core.List.{List}
 use lib.ListN.{length}
 use Rattle.numbers.specs.Outcome.{Outcome, gives, refuses}
 use Rattle.framing.specs.Spans.{Spans}
 use Rattle.framing.specs.Format.{ValueBytes, plain, annotated}
-use Rattle.stepping.specs.Items.{Item, finish, marker, value, field, Pad}
+use Rattle.stepping.specs.Items.{Item, finish, marker, value, field, item_end, Pad}
 use Rattle.stepping.specs.Answers.{step_of, answer_at}
+use Rattle.stepping.specs.Leaving.{is_last}
 use Rattle.stepping.specs.Runs.{cursor}
 use Rattle.stepping.specs.Format.{NameBytes, in_stream, in_sequence, in_fields, ItemAt, marker-at, value_in_stream, value_in_sequence, field-at}
 use Rattle.stepping.specs.Meaning.{Skips, arrived, passed, Stands, the_end, the_item, refused_there, no_part, no_limit}
@@ -71,6 +72,16 @@ stands_met at l (no_limit _) = refused
 pub met : (limit : ℕ) (rules : Rules) (s : List ℕ) (at hi : ℕ) → Met s at hi (answer_at limit rules s at hi)
 unfolding step_of
 met limit rules s at hi = let w = steps-sound limit rules s (cursor at hi) in stands_met at (skips_on w.1) w.2
+
+-- an item that is handed out ends behind the step's position, and not behind the part's end
+moves_on : {s : List ℕ} {at hi : ℕ} {i : Item} → Met s at hi (gives i) → is_last (gives i) ≡ false → (at < item_end i) × (item_end i ≤ hi)
+moves_on (ended _) h = absurd (true≢false h)
+moves_on (a_marker l m n) _ = (omega arith, n)
+moves_on (a_value v) _ = (omega (arith, v.starts, v.header, v.order), v.fits)
+moves_on (a_field _ v) _ = (omega (arith, v.starts, v.header, v.order), v.fits)
+
+pub moved_on : (limit : ℕ) (rules : Rules) (s : List ℕ) (at hi : ℕ) {i : Item} → answer_at limit rules s at hi ≡ gives i → is_last (gives i) ≡ false → (at < item_end i) × (item_end i ≤ hi)
+moved_on limit rules s at hi q = moves_on (subst (Met s at hi) q (met limit rules s at hi))
 
 -- what a step hands out by the rules of its part
 abbrev pub is_handed : Outcome Item → Rules → Bool

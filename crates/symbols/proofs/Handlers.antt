@@ -1,7 +1,7 @@
 -- What is made of an item of the stream, of a table's field and of a list's entry leads to the item's end, if anywhere.
 -- Assumes nothing.
 use Prim.Native.Nat.{ℕ}
-use mathlib.Core.Path.{refl}
+use mathlib.Core.Path.{◌≡◌, refl}
 use mathlib.Core.Bool.{Bool}
 use mathlib.Core.List.{List}
 use lib.Dec.{ltb, eqb}
@@ -9,8 +9,11 @@ use Rattle.numbers.specs.Outcome.{Outcome, gives, refuses}
 use Rattle.numbers.proofs.Outcomes.{by_test}
 use Rattle.framing.specs.Spans.{Spans}
 use Rattle.stepping.specs.Items.{finish, marker, value, field}
-use Rattle.symbols.specs.Text.{is_table, Ruling, tabled, on_stream, on_field, on_entry}
-use Rattle.symbols.proofs.Stepping.{Leads, stops, goes, Follows}
+use Rattle.stepping.specs.Answers.{answer_at}
+use Rattle.stepping.specs.declared.cursor.Rules.TheVariants.{Stream, Sequence, Fields}
+use Rattle.symbols.specs.Turns.{turned, meets, step_all}
+use Rattle.symbols.specs.Text.{is_table, Ruling, tabled, on_stream, SymbolsField, on_field, on_entry}
+use Rattle.symbols.proofs.Stepping.{Leads, stops, goes, Follows, one_step}
 
 tabled_leads : (v : Spans) (r : Ruling) (o : Outcome Bool) → Leads (value v) (tabled v r o)
 tabled_leads v r (gives t) = goes refl
@@ -41,3 +44,14 @@ entry_follows s n (finish p) = stops
 entry_follows s n (marker a x y e) = stops
 entry_follows s n (value v) = by_test (Leads (value v)) (eqb n 0) (λ _. stops) (λ _. goes refl)
 entry_follows s n (field id a v) = stops
+
+-- one step, on the stream, in a table and in a list
+module _ (limit : ℕ) (s : List ℕ) (at end : ℕ) where
+  pub stream_step : (place : ℕ) (r : Ruling) → step_all limit Stream s (on_stream s place) at end r ≡ turned (λ e q. step_all limit Stream s (on_stream s place) e end q) (meets (on_stream s place) r (answer_at limit Stream s at end))
+  stream_step place r = one_step limit Stream s end (on_stream s place) (stream_follows s place) at r
+
+  pub field_step : (y : SymbolsField) → step_all limit Fields s on_field at end y ≡ turned (λ e z. step_all limit Fields s on_field e end z) (meets on_field y (answer_at limit Fields s at end))
+  field_step y = one_step limit Fields s end on_field field_follows at y
+
+  pub entry_step : (n : ℕ) → step_all limit Sequence s (on_entry s) at end n ≡ turned (λ e k. step_all limit Sequence s (on_entry s) e end k) (meets (on_entry s) n (answer_at limit Sequence s at end))
+  entry_step n = one_step limit Sequence s end (on_entry s) (entry_follows s) at n

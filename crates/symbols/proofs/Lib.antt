@@ -1,3 +1,4 @@
+pub mod Steps
 pub mod Answered
 pub mod Stepping
 pub mod Handlers

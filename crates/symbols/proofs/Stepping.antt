@@ -79,6 +79,14 @@ module _ {A R : Type 0} (limit : ℕ) (rules : Rules) (s : List ℕ) (end : ℕ)
   pub steps_further : (at : ℕ) (a : A) (e : ℕ) (b : A) → meets meet a (answer_at limit rules s at end) ≡ further e b → step_all limit rules s meet at end a ≡ step_all limit rules s meet e end b
   steps_further at a e b q = let p = further_on at a e b q in unrolled at a e b q ∙ enough (end - at) e b (omega arith)
 
+  -- what one step makes of the rest
+  pub one_step : (at : ℕ) (a : A) → step_all limit rules s meet at end a ≡ turned (λ e b. step_all limit rules s meet e end b) (meets meet a (answer_at limit rules s at end))
+  one_step at a = go (meets meet a (answer_at limit rules s at end)) refl
+    where
+      go : (t : Turn A R) → meets meet a (answer_at limit rules s at end) ≡ t → step_all limit rules s meet at end a ≡ turned (λ e b. step_all limit rules s meet e end b) t
+      go (over o) q = steps_over at a o q
+      go (further e b) q = steps_further at a e b q
+
 -- what holds of each answer that an item can make, where Q holds of what is kept, holds of the whole
 pub data EachTurn {A R : Type 0} (Q : A → Type 0) (P : R → Type 0) : Turn A R → Type 0 where
   each_over : {o : Outcome R} → Each P o → EachTurn Q P (over o)

@@ -3,16 +3,16 @@
 use Prim.Native.Nat.{ℕ, zero, suc, ◌+◌, ◌≤◌, ◌<◌}
 use native.Mathlib.Omega.{arith}
 use native.Mathlib.Nat.{le_of_suc-le-suc, not-suc-le-zero}
-use borrow.Author.Tests.{eqb-true, eqb-false}
+use borrow.Author.Tests.{eqb-true}
 use mathlib.Core.Path.{◌≡◌, refl, ◌∙◌, sym, ap}
-use mathlib.Core.Bool.{Bool, true, false, true≢false}
+use mathlib.Core.Bool.{Bool, true, false, ◌&&◌, true≢false}
+use Rattle.std.specs.Cmp.Lexicographic.{pointwise}
 use mathlib.Core.List.{List, [], ◌∷◌, ◌++◌}
 use lib.ListN.{length, get_or, take, drop, length-append}
 use lib.Seq.{take-append-add, drop-append-add}
 use lib.Dec.{eqb}
 use Rattle.numbers.specs.Outcome.{pick}
 use Rattle.numbers.specs.Bytes.{part}
-use Rattle.numbers.proofs.Outcomes.{by_case}
 use Rattle.symbols.specs.SystemTexts.{system_texts, joined, system_bytes, text_start, same_bytes}
 
 pub same_bytes_lem : (a b : List ℕ) → same_bytes a b ≡ true → a ≡ b
@@ -26,16 +26,17 @@ same_bytes_lem (x ∷ xs) (y ∷ ys) h = first (eqb x y) (eqb-true x y) h (same_
     first true e h r = let p = e refl in let q = r h in cc
     first false e h r = absurd (true≢false (sym h))
 
-pub same_self : (a : List ℕ) → same_bytes a a ≡ true
+-- the slices' own equality
+pub pointwise_same : (a b : List ℕ) → pointwise eqb a b ≡ same_bytes a b
 unfolding same_bytes
-same_self [] = refl
-same_self (x ∷ xs) = let e : eqb x x ≡ true = eq_self x in rw (e, same_self xs)
+pointwise_same [] [] = refl
+pointwise_same [] (y ∷ ys) = refl
+pointwise_same (x ∷ xs) [] = refl
+pointwise_same (x ∷ xs) (y ∷ ys) = rw (pointwise_same xs ys) (both (eqb x y) (same_bytes xs ys))
   where
-    eq_self : (x : ℕ) → eqb x x ≡ true
-    eq_self x = by_case (eqb x x) (λ t. t) (λ t. absurd (eqb-false x x t refl))
-
-pub differ : (a b : List ℕ) → (a ≡ b → ⊥) → same_bytes a b ≡ false
-differ a b n = by_case (same_bytes a b) (λ t. absurd (n (same_bytes_lem a b t))) (λ t. t)
+    both : (a b : Bool) → (a && b) ≡ pick a b false
+    both true b = refl
+    both false b = refl
 
 -- each text begins where those before it end, and they end with the last
 starts_rise : (ts : List (List ℕ)) (n : ℕ) → length (joined (take n ts)) ≤ length (joined (take (suc n) ts))

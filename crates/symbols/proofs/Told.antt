@@ -6,6 +6,7 @@ use borrow.Author.Tests.{ltb-true, ltb-false, eqb-false, not-false}
 use mathlib.Core.Path.{◌≡◌, sym, subst}
 use mathlib.Core.Bool.{not}
 use mathlib.Core.List.{List}
+use lib.ListN.{length}
 use lib.Dec.{ltb, eqb}
 use Rattle.numbers.specs.Outcome.{gives}
 use Rattle.numbers.proofs.Outcomes.{by_test, Each, given, each_refuse, each_pick, each_then, each_of, each_if}
@@ -14,7 +15,7 @@ use Rattle.bodies.specs.Utf8.{utf8}
 use Rattle.stepping.specs.Items.{finish, marker, value, field}
 use Rattle.stepping.specs.declared.cursor.Rules.TheVariants.{Sequence}
 use Rattle.symbols.specs.SystemTexts.{system_bytes, text_start, same_bytes}
-use Rattle.symbols.specs.Text.{is_typed, system, system_text, Own, no_list, listed, entry_text, on_entry, own_text, text_in, symbols_at, text_of}
+use Rattle.symbols.specs.Text.{is_typed, own, system, system_text, Own, no_list, listed, entry_text, on_entry, own_text, text_in, symbols_at, text_of}
 use Rattle.symbols.specs.TextTheorems.{TextTold, nowhere, in_map, in_system, TextsTold}
 use Rattle.symbols.proofs.Answered.{Met, ValueMet, a_value}
 use Rattle.symbols.proofs.Stepping.{EachTurn, each_over, each_further, EachItem, each_all}
@@ -74,3 +75,17 @@ text_each limit s lent start end place id =
 
 pub texts_told : TextsTold
 texts_told limit s lent start end place id t q = each_of (text_each limit s lent start end place id) q
+
+-- and so it is a part of its slice
+own_part : {s lent : List ℕ} {id a b : ℕ} → TextTold s lent id (own a b) → (a ≤ b) × (b ≤ length s)
+own_part (in_map _ l m _) = (l, m)
+
+system_part_of : {s lent : List ℕ} {id a b : ℕ} → TextTold s lent id (system a b) → (a ≤ b) × (b ≤ length lent)
+system_part_of (in_system _ _ l m _) = (l, m)
+
+module _ (limit : ℕ) (s lent : List ℕ) (start end place id a b : ℕ) where
+  pub own_in : text_of limit s lent start end place id ≡ gives (own a b) → (a ≤ b) × (b ≤ length s)
+  own_in q = own_part (texts_told limit s lent start end place id (own a b) q)
+
+  pub system_in : text_of limit s lent start end place id ≡ gives (system a b) → (a ≤ b) × (b ≤ length lent)
+  system_in q = system_part_of (texts_told limit s lent start end place id (system a b) q)

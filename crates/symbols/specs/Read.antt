@@ -1,25 +1,25 @@
--- What each case of an enum of this layer says in the change request's terms.
+-- What each reading of this layer says in the change request's terms.
 -- Assumes nothing.
-use Rattle.numbers.specs.Outcome.{Outcome, gives}
-use Rattle.numbers.specs.Read.{refusal_read}
+use Rattle.std.specs.Prelude.{Result, Option, Some, None}
+use Rattle.numbers.specs.Outcome.{Outcome}
+use Rattle.numbers.specs.declared.refusal.Refusal.{Refusal}
+use Rattle.numbers.specs.Read.{outcome}
+use Rattle.values.specs.declared.value.Span.{Span}
 use Rattle.symbols.specs.Text.{Own, no_list, listed, Text, unknown, own, system}
-use Rattle.symbols.specs.declared.symbols.OwnList.{OwnList}
-use Rattle.symbols.specs.declared.symbols.OwnList.TheVariants.{NoList, List}
-use Rattle.symbols.specs.declared.symbols.Symbols.{Symbols}
-use Rattle.symbols.specs.declared.symbols.Symbols.TheVariants.{Of, Refused as SymbolsRefused}
 use Rattle.symbols.specs.declared.symbols.SymbolText.{SymbolText}
-use Rattle.symbols.specs.declared.symbols.SymbolText.TheVariants.{Unknown, Own as OwnText, System, Refused as TextRefused}
+use Rattle.symbols.specs.declared.symbols.SymbolText.TheVariants.{Unknown, Own as OwnText, System}
 
-abbrev pub own_read : OwnList → Own
-own_read NoList = no_list
-own_read (List a b) = listed a b
+abbrev pub own_read : Option Span → Own
+own_read None = no_list
+own_read (Some b) = listed b.start b.end
 
-abbrev pub symbols_read : Symbols → Outcome Own
-symbols_read (Of l) = gives (own_read l)
-symbols_read (SymbolsRefused e) = refusal_read e
+abbrev pub symbols_read : Result (Option Span) Refusal → Outcome Own
+symbols_read = outcome own_read
 
-abbrev pub text_read : SymbolText → Outcome Text
-text_read Unknown = gives unknown
-text_read (OwnText a b) = gives (own a b)
-text_read (System a b) = gives (system a b)
-text_read (TextRefused e) = refusal_read e
+abbrev pub text_told : SymbolText → Text
+text_told Unknown = unknown
+text_told (OwnText b) = own b.start b.end
+text_told (System b) = system b.start b.end
+
+abbrev pub text_read : Result SymbolText Refusal → Outcome Text
+text_read = outcome text_told

@@ -1,24 +1,21 @@
 -- A timestamp's fields, read one after the other into six places: those read, with what is still to be read behind them, are all that the definition reads.
 -- Assumes nothing.
-use Prim.Native.Nat.{ℕ, zero, suc, ◌+◌, ◌-◌, ◌^◌, ◌≤◌, ◌<◌}
+use Prim.Native.Nat.{ℕ, zero, suc, ◌+◌, ◌-◌, ◌≤◌, ◌<◌}
 use native.Mathlib.Omega.{arith}
 use native.Mathlib.Numerals.{add-one}
 use mathlib.Core.Path.{◌≡◌, refl, ◌∙◌, sym, ap}
-use mathlib.Core.Bool.{true, false}
 use mathlib.Core.List.{List, [], ◌∷◌, ◌++◌, append_assoc, append-nil}
 use lib.ListN.{length, get_or, take, set, length-set}
 use lib.Seq.{take-suc-set, get_or-take, get_or-set_other, length-take-le}
-use lib.Dec.{eqb, leb, ltb}
+use lib.Dec.{eqb, ltb}
 use borrow.Author.Tests.{eq-eqb, ne_eqb, ltb-true, ltb-false}
 use Rattle.numbers.specs.Outcome.{Outcome, gives, refuses, and_then}
-use Rattle.numbers.specs.Answers.{Unsigned, Signed, var_uint, var_int}
-use Rattle.numbers.proofs.Outcomes.{by_case, by_test, Each, given, each_then, each_pick, each_if}
-use Rattle.timestamps.specs.Timestamp.{Values, before, after_value, fields_from, fields_of, with_decimal, with_values, with_offset, encoded, judged, timestamp}
-use Rattle.timestamps.specs.Private.Reading.{Filled, counted, fields_answer, magnitude_answer}
-use Rattle.numbers.specs.declared.refusal.Refusal.{Refusal}
+use Rattle.numbers.specs.Answers.{Unsigned, var_uint}
+use Rattle.numbers.proofs.Outcomes.{by_case, Each, given, each_then, each_pick, each_if}
+use Rattle.timestamps.specs.Timestamp.{Values, before, after_value, fields_from, fields_of}
+use Rattle.timestamps.specs.Private.Reading.{Filled, fields_given}
 use Rattle.timestamps.specs.declared.timestamp.Fields.{Fields}
-use Rattle.timestamps.specs.declared.timestamp.Magnitude.TheVariants.{Value as MagnitudeValue, TooLong}
-use Rattle.timestamps.specs.declared.timestamp.FieldsRead.TheVariants.{Value as FieldsValue, Refused as FieldsRefused}
+use Rattle.timestamps.specs.declared.timestamp.FieldsRead.{FieldsRead}
 
 -- past its end a list has nothing
 get_d_past : (values : List ℕ) (i : ℕ) → length values ≤ i → get_or values i 0 ≡ 0
@@ -55,6 +52,19 @@ fields_none s end at values = rw (append-nil values)
 onward_start : (o : Outcome Values) → o ≡ onward [] o
 onward_start (gives v) = refl
 onward_start (refuses number position) = refl
+
+-- six values as fields, of which so many were read
+abbrev counted : ℕ → List ℕ → Fields
+counted count values =
+    record {
+      count = count;
+      year = get_or values 0 0;
+      month = get_or values 1 0;
+      day = get_or values 2 0;
+      hour = get_or values 3 0;
+      minute = get_or values 4 0;
+      second = get_or values 5 0;
+    }
 
 -- how far the reading is: `count` of the six places hold what was read, the others 0
 pub record Progress (s : List ℕ) (end at : ℕ) (values : List ℕ) (count from : ℕ) : Type 0 where
@@ -126,16 +136,16 @@ module _ (s : List ℕ) (end at : ℕ) where
               same = p.same ∙ rw (left, taken) (fields_on s end from (take count values) (6 - (count + 1)) _ read e);
             }
 
-        pub progress_last : next ≡ end → FieldsValue (counted (count + 1) (set values count value)) next ≡ fields_answer (fields_from 6 s end at)
+        pub progress_last : next ≡ end → gives (record { fields = counted (count + 1) (set values count value); next = next }) ≡ fields_given (fields_from 6 s end at)
         progress_last e =
             rw
             (p.same, left, fields_last s end from (take count values) (6 - (count + 1)) _ read e, ← taken, counted_is (set values count value) (count + 1) size (omega arith) zeros, e)
 
-      pub progress_refused : (number position : ℕ) → var_uint s from end ≡ refuses number position → FieldsRefused (record { number = number; position = position }) ≡ fields_answer (fields_from 6 s end at)
+      pub progress_refused : (number position : ℕ) → var_uint s from end ≡ refuses number position → refuses number position ≡ fields_given (fields_from 6 s end at)
       progress_refused number position r =
           rw (p.same, left, fields_refused s end from (take count values) (6 - (count + 1)) number position r)
 
-    pub progress_done : 6 ≤ count → FieldsValue (counted count values) from ≡ fields_answer (fields_from 6 s end at)
+    pub progress_done : 6 ≤ count → gives (record { fields = counted count values; next = from }) ≡ fields_given (fields_from 6 s end at)
     progress_done h =
         let e : 6 - count ≡ 0 = omega arith in
         rw (p.same, e, fields_none s end from (take count values), counted_is values count p.size p.most p.zeros)
@@ -164,27 +174,12 @@ pub record FieldsFound (o : Outcome Values) (f : Fields) (next : ℕ) : Type 0 w
   pub is : o ≡ gives (record { values = values; next = next })
   pub fields : f ≡ fields_of values
 
-pub fields_found : (o : Outcome Values) {f : Fields} {next : ℕ} → fields_answer o ≡ FieldsValue f next → FieldsFound o f next
-fields_found (gives v) {f} {next} e =
-    record { values = v.values; is = let n : v.next ≡ next = cc in rw (← n); fields = let n : fields_of v.values ≡ f = cc in sym n }
+pub fields_found : (o : Outcome Values) {r : FieldsRead} → fields_given o ≡ gives r → FieldsFound o r.fields r.next
+fields_found (gives v) {r} e =
+    let q : record { fields = fields_of v.values; next = v.next } ≡ r = cc in
+    record { values = v.values; is = let n : v.next ≡ r.next = ap (λ (x : FieldsRead). x.next) q in rw (← n); fields = ap (λ (x : FieldsRead). x.fields) (sym q) }
 fields_found (refuses number position) e = absurd (let z : ◌≡◌ {A = ℕ} 0 1 = cc in omega arith)
 
-pub fields_cut : (o : Outcome Values) (e : Refusal) → fields_answer o ≡ FieldsRefused e → o ≡ refuses e.number e.position
-fields_cut (gives v) e h = absurd (let z : ◌≡◌ {A = ℕ} 0 1 = cc in omega arith)
-fields_cut (refuses number position) e h =
-    let r : record { number = number; position = position } ≡ e = cc in
-    ap (λ (x : Refusal). refuses x.number x.position) r
-
--- a magnitude that eight bytes hold, and one that they don't
-pub magnitude_held : (m k : ℕ) → magnitude_answer m ≡ MagnitudeValue k → (leb (256 ^ 8) m ≡ false) × (m ≡ k)
-unfolding magnitude_answer
-magnitude_held m k = by_test (λ a. a ≡ MagnitudeValue k → (leb (256 ^ 8) m ≡ false) × (m ≡ k)) (leb (256 ^ 8) m) (λ t e. absurd (let z : ◌≡◌ {A = ℕ} 0 1 = cc in omega arith)) (λ t e. (t, cc))
-
-pub magnitude_long : (m : ℕ) → magnitude_answer m ≡ TooLong → leb (256 ^ 8) m ≡ true
-unfolding magnitude_answer
-magnitude_long m = by_test (λ a. a ≡ TooLong → leb (256 ^ 8) m ≡ true) (leb (256 ^ 8) m) (λ t e. t) (λ t e. absurd (let z : ◌≡◌ {A = ℕ} 0 1 = cc in omega arith))
-
--- what is made of the offset and of the fields that were found
-pub stamp_found : (descriptor : ℕ) (s : List ℕ) (start end : ℕ) (o : Signed) (f : Fields) (at : ℕ) → var_int s start end ≡ gives o → FieldsFound (fields_from 6 s end o.next) f at → and_then (with_decimal s end at (record { negative = o.negative; minutes = o.magnitude }) f) (judged descriptor) ≡ timestamp descriptor s start end
-unfolding timestamp encoded with_offset with_values
-stamp_found descriptor s start end o f at h r = rw (h, r.is, r.fields)
+pub fields_cut : (o : Outcome Values) (n p : ℕ) → fields_given o ≡ refuses n p → o ≡ refuses n p
+fields_cut (gives v) n p h = absurd (let z : ◌≡◌ {A = ℕ} 0 1 = cc in omega arith)
+fields_cut (refuses number position) n p h = cc

@@ -4,3 +4,4 @@ pub mod Ranges
 pub mod FieldReading
 pub mod Stamping
 pub mod StampMoving
+pub mod Stamps

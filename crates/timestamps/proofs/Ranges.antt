@@ -13,7 +13,7 @@ use Rattle.timestamps.specs.Calendar.{days_in, DaysOf}
 use Rattle.timestamps.specs.Timestamp.{Encoded, out_of, year_out, month_out, day_out, date_out, time_out, fraction_out, offset_out, out_of_range}
 use Rattle.timestamps.specs.TimestampMeaning.{Between, FieldsWithin, FractionWithin, Within}
 use Rattle.timestamps.specs.declared.timestamp.Fields.{Fields}
-use Rattle.timestamps.specs.declared.timestamp.Fraction.{Fraction}
+use Rattle.timestamps.specs.Timestamp.{Fraction}
 use Rattle.timestamps.specs.Private.Reading.{Filled}
 use Rattle.timestamps.proofs.Gregorian.{months-sound, months-complete, days_most}
 use Rattle.timestamps.proofs.Powers.{power_positive}

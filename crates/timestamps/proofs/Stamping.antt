@@ -26,7 +26,7 @@ use Rattle.timestamps.specs.TimestampMeaning.{to_year, to_month, to_day, to_minu
 use Rattle.timestamps.specs.TimestampMeaning.{offset_cut, offset_long, field_cut, field_long, exponent_cut, exponent_long, TimestampsSound, TimestampsComplete}
 use Rattle.timestamps.specs.declared.timestamp.Offset.{Offset}
 use Rattle.timestamps.specs.declared.timestamp.Fields.{Fields}
-use Rattle.timestamps.specs.declared.timestamp.Fraction.{Fraction}
+use Rattle.timestamps.specs.Timestamp.{Fraction}
 use Rattle.timestamps.specs.declared.timestamp.Stamp.{Stamp}
 use Rattle.bodies.proofs.Splitting.{decimals-sound, decimals-complete}
 use Rattle.timestamps.proofs.Ranges.{within_sound, within_complete}
@@ -82,6 +82,22 @@ module _ (s : List ℕ) (end : ℕ) where
   fields_sound zero at a b = all_read none (omega arith) (λ l. absurd (omega arith)) (λ l. refl) a
   fields_sound (suc n) at a b = after_one n at a b (λ mid c. fields_sound n mid c b) (var-uint-sound s at end)
 
+-- where the fields end that were read
+pub record Behind (s : List ℕ) (end : ℕ) (v : Values) : Type 0 where
+  pub ends : v.next ≤ end
+  pub all : v.next < end → length v.values ≡ 6
+  pub most : length v.values ≤ 6
+
+behind_of : {s : List ℕ} {end at : ℕ} {o : Outcome Values} {v : Values} → FieldsMeaning 6 s end at o → o ≡ gives v → Behind s end v
+behind_of {s} {end} {v = v} (all_read {next} {values} r a b c d) q =
+    let e : record { values = values; next = next } ≡ v = cc in
+    subst (Behind s end) e (record { ends = d; all = c; most = a })
+behind_of (one_cut r a b c) q = absurd (let z : ◌≡◌ {A = ℕ} 0 1 = cc in omega arith)
+behind_of (one_long r a b c) q = absurd (let z : ◌≡◌ {A = ℕ} 0 1 = cc in omega arith)
+
+pub fields_behind : (s : List ℕ) (end at : ℕ) (v : Values) → at ≤ end → end ≤ length s → fields_from 6 s end at ≡ gives v → Behind s end v
+fields_behind s end at v a b q = behind_of (fields_sound s end 6 at a b) q
+
 -- how far it goes: four fields are refused, and a fraction is behind six
 reaches : (count : ℕ) (present : Bool) → 1 ≤ count → count ≤ 6 → (count ≡ 4 → ⊥) → (present ≡ true → count ≡ 6) → Reaches count present (precision_of count present)
 unfolding precision_of
@@ -135,11 +151,11 @@ worth e x four l =
     }
 
 -- a body that ends with its fields has no fraction
-none_behind : (s : List ℕ) (end : ℕ) → end ≤ length s → decimal s end end ≡ gives (zero_at end)
+pub none_behind : (s : List ℕ) (end : ℕ) → end ≤ length s → decimal s end end ≡ gives (zero_at end)
 unfolding decimal
 none_behind s end k = within_part s end end (omega arith) k ∙ rw (eq-eqb end end refl)
 
-fraction_none : (s : List ℕ) (end : ℕ) (o : Offset) (f : Fields) → end ≤ length s → with_decimal s end end o f ≡ gives (record { offset = o; fields = f; fraction = absent_fraction })
+pub fraction_none : (s : List ℕ) (end : ℕ) (o : Offset) (f : Fields) → end ≤ length s → with_decimal s end end o f ≡ gives (record { offset = o; fields = f; fraction = absent_fraction })
 unfolding with_decimal with_fraction of_digits
 fraction_none s end o f k = rw (none_behind s end k, part_none s end, le-ltb end end (omega arith))
 

@@ -1,19 +1,17 @@
 -- A timestamp's body: the Ion document's "6: timestamp", and what reading it answers by paper 02's A.4.
 -- Assumes nothing.
-use Rattle.std.specs.Prelude.{ℕ, zero, suc, ◌+◌, ◌-◌, ◌^◌, Bool, true, false, List, [], ◌∷◌, length, get_or, eqb, leb, ltb}
+use Rattle.std.specs.Prelude.{ℕ, zero, suc, ◌+◌, ◌-◌, ◌^◌, Bool, true, false, List, [], ◌∷◌, Result, length, get_or, eqb, leb, ltb}
 use Rattle.numbers.specs.Format.{of_digits}
 use Rattle.numbers.specs.Outcome.{Outcome, gives, pick, refuse_if, and_then}
 use Rattle.numbers.specs.Bytes.{part}
 use Rattle.numbers.specs.Answers.{Unsigned, Signed, var_uint, var_int}
-use Rattle.numbers.specs.Read.{refusal_read}
+use Rattle.numbers.specs.Read.{outcome}
+use Rattle.numbers.specs.declared.refusal.Refusal.{Refusal}
 use Rattle.bodies.specs.Decimal.{Split, decimal}
 use Rattle.timestamps.specs.Calendar.{days_in}
 use Rattle.timestamps.specs.declared.timestamp.Offset.{Offset}
 use Rattle.timestamps.specs.declared.timestamp.Fields.{Fields}
-use Rattle.timestamps.specs.declared.timestamp.Fraction.{Fraction}
 use Rattle.timestamps.specs.declared.timestamp.Stamp.{Stamp}
-use Rattle.timestamps.specs.declared.timestamp.Timestamp.{Timestamp}
-use Rattle.timestamps.specs.declared.timestamp.Timestamp.TheVariants.{Value, Refused}
 
 -- values that are read one after the other, and where they end
 pub record Values : Type 0 where
@@ -46,6 +44,14 @@ fields_of values =
       second = get_or values 5 0;
     }
 
+-- whether there is a fraction, its exponent, and its coefficient's sign and magnitude
+pub record Fraction : Type 0 where
+  pub present : Bool
+  pub exponent_negative : Bool
+  pub exponent : ℕ
+  pub negative : Bool
+  pub coefficient : ℕ
+
 -- what is encoded: an offset, these fields, and a fraction
 pub record Encoded : Type 0 where
   pub offset : Offset
@@ -53,20 +59,19 @@ pub record Encoded : Type 0 where
   pub fraction : Fraction
 
 -- the fraction is the decimal in the bytes that the fields leave, from `at` on; where they leave none, it is absent and zero
+abbrev pub fraction_from : List ℕ → ℕ → ℕ → Split → Fraction
+fraction_from s end at d =
+    record {
+      present = ltb at end;
+      exponent_negative = d.exponent_negative;
+      exponent = d.exponent;
+      negative = d.coefficient.negative;
+      coefficient = of_digits 256 (d.coefficient.first ∷ part s d.coefficient.rest d.coefficient.end);
+    }
+
 unfoldable pub with_fraction : List ℕ → ℕ → ℕ → Offset → Fields → Split → Outcome Encoded
 with_fraction s end at offset fields d =
-    gives
-    (record {
-      offset = offset;
-      fields = fields;
-      fraction = record {
-        present = ltb at end;
-        exponent_negative = d.exponent_negative;
-        exponent = d.exponent;
-        negative = d.coefficient.negative;
-        coefficient = of_digits 256 (d.coefficient.first ∷ part s d.coefficient.rest d.coefficient.end);
-      };
-    })
+    gives (record { offset = offset; fields = fields; fraction = fraction_from s end at d })
 
 unfoldable pub with_decimal : List ℕ → ℕ → ℕ → Offset → Fields → Outcome Encoded
 with_decimal s end at offset fields = and_then (decimal s at end) (with_fraction s end at offset fields)
@@ -169,7 +174,6 @@ judged descriptor e =
 unfoldable pub timestamp : ℕ → List ℕ → ℕ → ℕ → Outcome Stamp
 timestamp descriptor s start end = and_then (encoded s start end) (judged descriptor)
 
--- what each case of the reading's enum says in these terms
-abbrev pub timestamp_read : Timestamp → Outcome Stamp
-timestamp_read (Value t) = gives t
-timestamp_read (Refused e) = refusal_read e
+-- what each answer of the reading says in these terms
+abbrev pub timestamp_read : Result Stamp Refusal → Outcome Stamp
+timestamp_read = outcome (λ t. t)

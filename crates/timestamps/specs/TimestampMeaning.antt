@@ -7,10 +7,9 @@ use Rattle.numbers.specs.Outcome.{Outcome, gives, refuses, pick}
 use Rattle.numbers.specs.Bytes.{part, Same}
 use Rattle.timestamps.specs.Calendar.{DaysOf}
 use Rattle.bodies.specs.Decimal.{integer, var_int_of}
-use Rattle.timestamps.specs.Timestamp.{fields_of, Encoded, encoded, timestamp}
+use Rattle.timestamps.specs.Timestamp.{Fraction, fields_of, Encoded, encoded, timestamp}
 use Rattle.timestamps.specs.declared.timestamp.Offset.{Offset}
 use Rattle.timestamps.specs.declared.timestamp.Fields.{Fields}
-use Rattle.timestamps.specs.declared.timestamp.Fraction.{Fraction}
 use Rattle.timestamps.specs.declared.timestamp.Stamp.{Stamp}
 
 -- "6: timestamp": year, month, day, hour, minute and second are VarUInts. Such numbers of at most nine bytes, one behind the other from `at` to `next`,

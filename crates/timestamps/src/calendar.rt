@@ -1,44 +1,27 @@
 // The Gregorian calendar.
 ghost use Rattle.std.specs.Prelude.{◌≡◌};
-ghost use Rattle.timestamps.specs.Calendar.{leap_year, short_month, days_in};
+ghost use Rattle.timestamps.specs.Calendar.{leap_year, days_in};
 
+#[tactic(auto, unfolding(crate::specs::Calendar::leap_year))]
 fn is_leap_year(year: usize) -> bool
     ensures { result ≡ leap_year year }
 {
     if year % 100 == 0 {
-        return year % 400 == 0;
+        year % 400 == 0
+    } else {
+        year % 4 == 0
     }
-    year % 4 == 0
-}
-
-// Whether a month has 30 days.
-fn is_short_month(month: usize) -> bool
-    ensures { result ≡ short_month month }
-{
-    if month == 4 {
-        return true;
-    }
-    if month == 6 {
-        return true;
-    }
-    if month == 9 {
-        return true;
-    }
-    month == 11
 }
 
 // How many days a month has, January being 1.
+#[tactic(auto, unfolding(crate::specs::Calendar::days_in, crate::specs::Calendar::short_month))]
 pub fn days_in(year: usize, month: usize) -> usize
     ensures { result ≡ days_in year month }
 {
-    if month == 2 {
-        if is_leap_year(year) {
-            return 29;
-        }
-        return 28;
+    match month {
+        2 if is_leap_year(year) => 29,
+        2 => 28,
+        4 | 6 | 9 | 11 => 30,
+        _ => 31,
     }
-    if is_short_month(month) {
-        return 30;
-    }
-    31
 }

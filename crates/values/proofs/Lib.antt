@@ -1,3 +1,4 @@
+pub mod Tests
 pub mod Valued
 pub mod Reading
 pub mod Edges

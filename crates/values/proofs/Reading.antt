@@ -2,12 +2,13 @@
 -- Assumes nothing.
 use Prim.Native.Nat.{ℕ, ◌-◌, ◌≤◌}
 use native.Mathlib.Omega.{arith}
+use mathlib.Core.Path.{◌≡◌, sym, subst}
 use mathlib.Core.Bool.{Bool, not}
 use mathlib.Core.List.{List}
 use lib.ListN.{length}
 use lib.Dec.{ltb, eqb}
 use Rattle.numbers.specs.Outcome.{Outcome, gives}
-use Rattle.numbers.proofs.Outcomes.{Each, given, each_refuse, each_pick, each_then, each_map, refused}
+use Rattle.numbers.proofs.Outcomes.{Each, given, each_refuse, each_pick, each_then, each_map, each_of, refused}
 use Rattle.framing.specs.Limits.{out_of_range}
 use Rattle.framing.specs.Spans.{Spans}
 use Rattle.framing.specs.Answers.{read_value}
@@ -16,6 +17,7 @@ use Rattle.bodies.specs.Utf8.{utf8}
 use Rattle.bodies.specs.Magnitude.{significant_from}
 use Rattle.bodies.proofs.Leading.{significant_begins}
 use Rattle.values.specs.Scalars.{value_in, type_of, code_of, Scalar, int, bool_of, positive_of, negative_of, float_of, symbol_of, string_of, typed_of, scalar_of, read_scalar, span_of}
+use Rattle.values.specs.declared.value.Span.{Span}
 
 pub record InSlice (s : List ℕ) (v : Spans) : Type 0 where
   pub order : v.body ≤ v.end
@@ -32,6 +34,9 @@ pub value_in_each : (limit : ℕ) (s : List ℕ) (start end at : ℕ) → Each (
 unfolding value_in
 value_in_each limit s start end at =
     each_refuse (out_of_range limit) 68 0 (λ _. each_refuse (ltb at start) 50 0 (λ _. value_in_slice limit s at end))
+
+pub framed_placed : (limit : ℕ) (s : List ℕ) (start end at : ℕ) {v : Spans} → value_in limit s start end at ≡ gives v → (v.body ≤ v.end) × (v.end ≤ length s)
+framed_placed limit s start end at e = let i = each_of (value_in_each limit s start end at) e in (i.order, i.within)
 
 -- a reading's span
 pub record SpanIn (s : List ℕ) (x : Scalar) : Type 0 where
@@ -71,5 +76,6 @@ each_span : (s : List ℕ) {o : Outcome Scalar} → Each (SpanIn s) o → ((span
 each_span s (given i) = (i.order, i.within)
 each_span s refused = (omega arith, omega arith)
 
-pub read_span : (limit : ℕ) (s : List ℕ) (start end at : ℕ) → let o = read_scalar limit s start end at in ((span_of o).start ≤ (span_of o).end) × ((span_of o).end ≤ length s)
-read_span limit s start end at = each_span s (read_each limit s start end at)
+pub read_span : (limit : ℕ) (s : List ℕ) (start end at : ℕ) {x : Span} → x ≡ span_of (read_scalar limit s start end at) → (x.start ≤ x.end) × (x.end ≤ length s)
+read_span limit s start end at q =
+    subst (λ (x : Span). (x.start ≤ x.end) × (x.end ≤ length s)) (sym q) (each_span s (read_each limit s start end at))

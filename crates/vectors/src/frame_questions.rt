@@ -1,112 +1,93 @@
 // The answers to questions on frames: lengths, pads, wrappers, values and annotation steps.
-use crate::number_questions::refused;
-use framing::annotations_iterator::Annotation;
-use framing::encoded_value::{AnnotationsWrapper, EncodedValue, Frame, Framed, Length, NopPad};
-use framing::{annotations_iterator, binary_buffer};
-use questions::text::Line;
+use crate::answering::{Answer, Part, Refused, join};
+use framing::annotations_iterator::{Annotation, read_annotation};
+use framing::binary_buffer;
+use framing::encoded_value::{AnnotationsWrapper, EncodedValue, Frame, Length, NopPad};
+use numbers::refusal::Refusal;
+use std::alloc::Global;
+use std::fmt;
 
 // `length BYTES AT END`: where the value's body starts, and its length.
-fn length(s: &[u8], at: usize, end: usize) -> Line {
-    match binary_buffer::read_value_length(s, at, end) {
-        Length::Known { body, size } => Line::new().position(body).position(size),
-        Length::Refused(refusal) => refused(refusal),
-    }
+pub fn length(alloc: Global, part: Part) -> Answer {
+    let Length { body, size } = binary_buffer::read_value_length(part.s, part.at, part.end)?;
+    Ok(format!(in alloc; "{body} {size}")?)
 }
 
 // `pad BYTES AT END`: where the pad ends.
-fn pad(s: &[u8], at: usize, end: usize) -> Line {
-    match binary_buffer::read_nop_pad(s, at, end) {
-        NopPad::Pad { body: _, end: past } => Line::new().position(past),
-        NopPad::Refused(refusal) => refused(refusal),
-    }
+pub fn pad(alloc: Global, part: Part) -> Answer {
+    let pad = binary_buffer::read_nop_pad(part.s, part.at, part.end)?;
+    Ok(format!(in alloc; "{}", pad.end)?)
 }
 
 // `wrapper BYTES AT END LIMIT`: where the annotations start and end, and how long the value is to be.
-fn wrapper(s: &[u8], at: usize, end: usize, limit: usize) -> Line {
-    match binary_buffer::read_annotations_wrapper(s, at, end, limit) {
-        AnnotationsWrapper::Wrapper {
-            annotations,
-            value,
-            expected,
-        } => {
-            Line::new()
-                .position(annotations)
-                .position(value)
-                .position(expected)
-        }
-        AnnotationsWrapper::Refused(refusal) => refused(refusal),
-    }
+pub fn wrapper(alloc: Global, part: Part, limit: usize) -> Answer {
+    let AnnotationsWrapper {
+        annotations,
+        value,
+        expected,
+    } = binary_buffer::read_annotations_wrapper(part.s, part.at, part.end, limit)?;
+    Ok(format!(in alloc; "{annotations} {value} {expected}")?)
 }
 
 // A value's own byte, and its places.
-pub fn places(line: Line, value: EncodedValue) -> Line {
-    line.word(b"value")
-        .number(value.byte as u64)
-        .position(value.start)
-        .position(value.annotations)
-        .position(value.descriptor)
-        .position(value.body)
-        .position(value.end)
+#[derive(Clone, Copy)]
+pub struct Places(pub EncodedValue);
+
+impl fmt::Display for Places {
+    fn fmt<W: fmt::Write>(&self, f: &mut fmt::Formatter<W>) -> fmt::Result {
+        let EncodedValue {
+            start,
+            annotations,
+            descriptor,
+            body,
+            end,
+            byte,
+        } = self.0;
+        write!(
+            f,
+            "value {byte} {start} {annotations} {descriptor} {body} {end}"
+        )
+    }
 }
 
 // `value BYTES AT END LIMIT`: the value at AT.
-fn value(s: &[u8], at: usize, end: usize, limit: usize) -> Line {
-    match binary_buffer::read_value(s, at, end, limit) {
-        Framed::Value(value) => places(Line::new(), value),
-        Framed::Refused(refusal) => refused(refusal),
-    }
+pub fn value(alloc: Global, part: Part, limit: usize) -> Answer {
+    let value = binary_buffer::read_value(part.s, part.at, part.end, limit)?;
+    Ok(format!(in alloc; "{}", Places(value))?)
 }
 
 // `frame BYTES AT END LIMIT`: the same, or a pad's body.
-fn frame(s: &[u8], at: usize, end: usize, limit: usize) -> Line {
-    match binary_buffer::read_frame(s, at, end, limit) {
-        Frame::Pad { body, end: past } => Line::new().word(b"pad").position(body).position(past),
-        Frame::Value(value) => places(Line::new(), value),
-        Frame::Refused(refusal) => refused(refusal),
+pub fn frame(alloc: Global, part: Part, limit: usize) -> Answer {
+    match binary_buffer::read_frame(part.s, part.at, part.end, limit)? {
+        Frame::Pad(NopPad { body, end }) => Ok(format!(in alloc; "pad {body} {end}")?),
+        Frame::Value(value) => Ok(format!(in alloc; "{}", Places(value))?),
     }
 }
 
-fn annotation(line: Line, step: Annotation) -> Line {
-    match step {
-        Annotation::Id { id, next } => line.position(id).position(next),
-        Annotation::End => line.word(b"end"),
-        Annotation::Refused(refusal) => line
-            .word(b"refused")
-            .number(refusal.number)
-            .position(refusal.position),
+// What an annotation step says.
+#[derive(Clone, Copy)]
+struct Said(Result<Option<Annotation>, Refusal>);
+
+impl fmt::Display for Said {
+    fn fmt<W: fmt::Write>(&self, f: &mut fmt::Formatter<W>) -> fmt::Result {
+        match self.0 {
+            Ok(Some(Annotation { id, next })) => write!(f, "{id} {next}"),
+            Ok(None) => write!(f, "end"),
+            Err(refusal) => write!(f, "{}", Refused(refusal)),
+        }
     }
 }
 
-// Where the step after this one begins: the end and a refusal leave the cursor.
-fn cursor(at: usize, step: Annotation) -> usize {
-    match step {
-        Annotation::Id { id: _, next } => next,
-        Annotation::End => at,
-        Annotation::Refused(_) => at,
-    }
-}
-
-// `annotations BYTES AT END COUNT`: what so many annotation steps say, each from where the one before left.
-fn annotations(s: &[u8], at: usize, end: usize, count: usize) -> Line {
-    let mut line = Line::new();
-    let mut from = at;
+// `annotations BYTES AT END COUNT`: what so many annotation steps say, each from where the one before left. The end and a refusal leave the cursor.
+pub fn annotations(alloc: Global, part: Part, count: usize) -> Answer {
+    let mut line = String::new(alloc);
+    let mut from = part.at;
     for _ in 0..count {
-        let step = annotations_iterator::read_annotation(s, from, end);
-        line = annotation(line.joined(), step);
-        from = cursor(from, step);
+        let step = read_annotation(part.s, from, part.end);
+        join(&mut line, &Said(step))?;
+        if let Ok(Some(annotation)) = step {
+            from = annotation.next;
+        }
     }
-    line
-}
-
-// The answer to a question on frames, and nothing where it is on something else.
-pub fn answer(asked: &[u8], s: &[u8], at: usize, end: usize, count: usize, limit: usize) -> Line {
-    match asked {
-        b"length" => length(s, at, end),
-        b"pad" => pad(s, at, end),
-        b"wrapper" => wrapper(s, at, end, limit),
-        b"value" => value(s, at, end, limit),
-        b"frame" => frame(s, at, end, limit),
-        b"annotations" => annotations(s, at, end, count),
-        _ => Line::new(),
-    }
+    Ok(line)
 }

@@ -1,136 +1,82 @@
 // The answers to questions on numbers and descriptors.
+use crate::answering::{Answer, Part, sign};
 use numbers::binary_buffer;
 use numbers::int::Int;
-use numbers::refusal::Refusal;
 use numbers::type_descriptor::{Kind, TypeDescriptor};
 use numbers::var_int::VarInt;
 use numbers::var_uint::VarUInt;
-use questions::text::Line;
-
-pub fn refused(refusal: Refusal) -> Line {
-    Line::new()
-        .word(b"refused")
-        .number(refusal.number)
-        .position(refusal.position)
-}
-
-fn sign(negative: bool) -> Line {
-    if negative {
-        Line::new().word(b"negative")
-    } else {
-        Line::new().word(b"positive")
-    }
-}
+use questions::hexadecimal::Hexadecimal;
+use std::alloc::{AllocError, Global};
+use std::iter;
 
 // `varuint BYTES AT END`: the value, and where the number ends.
-fn var_uint(s: &[u8], at: usize, end: usize) -> Line {
-    match binary_buffer::read_var_uint_slow(s, at, end) {
-        VarUInt::Value { value, next } => Line::new().position(value).position(next),
-        VarUInt::Refused(refusal) => refused(refusal),
-    }
+pub fn var_uint(alloc: Global, part: Part) -> Answer {
+    let VarUInt { value, next } = binary_buffer::read_var_uint(part.s, part.at, part.end)?;
+    Ok(format!(in alloc; "{value} {next}")?)
 }
 
 // `varint BYTES AT END`: sign, magnitude, and where the number ends.
-fn var_int(s: &[u8], at: usize, end: usize) -> Line {
-    match binary_buffer::read_var_int(s, at, end) {
-        VarInt::Value {
-            negative,
-            magnitude,
-            next,
-        } => sign(negative).position(magnitude).position(next),
-        VarInt::Refused(refusal) => refused(refusal),
-    }
+pub fn var_int(alloc: Global, part: Part) -> Answer {
+    let VarInt {
+        negative,
+        magnitude,
+        next,
+    } = binary_buffer::read_var_int(part.s, part.at, part.end)?;
+    Ok(format!(in alloc; "{} {magnitude} {next}", sign(negative))?)
 }
 
 // `intparts BYTES AT END LENGTH`: sign, the low seven bits of the first byte, and the span of the bytes after it.
-fn int_parts(s: &[u8], at: usize, end: usize, length: usize) -> Line {
-    match binary_buffer::read_int(s, at, end, length) {
-        Int::Value {
-            negative,
-            first,
-            rest,
-            end: after,
-        } => {
-            sign(negative)
-                .number(first as u64)
-                .position(rest)
-                .position(after)
-        }
-        Int::Refused(refusal) => refused(refusal),
-    }
+pub fn int_parts(alloc: Global, part: Part, length: usize) -> Answer {
+    let Int {
+        negative,
+        first,
+        rest,
+        end,
+    } = binary_buffer::read_int(part.s, part.at, part.end, length)?;
+    Ok(format!(in alloc; "{} {first} {rest} {end}", sign(negative))?)
 }
 
-// A magnitude's bytes without leading zeros, `-` where none is left.
-pub fn magnitude(line: Line, first: u8, rest: &[u8]) -> Line {
-    let mut out = line.byte(b' ');
-    let mut any = false;
-    if first != 0 {
-        out = out.hex_byte(first);
-        any = true;
-    }
-    for byte in rest {
-        if any || *byte != 0 {
-            out = out.hex_byte(*byte);
-            any = true;
-        }
-    }
-    if any { out } else { out.byte(b'-') }
+// A magnitude's bytes without leading zeros.
+pub fn magnitude(alloc: Global, first: u8, rest: &[u8]) -> Result<Vec<u8>, AllocError> {
+    iter::once(first)
+        .chain(rest.iter().copied())
+        .skip_while(|byte| *byte == 0)
+        .collect(alloc)
 }
 
 // `int BYTES AT END LENGTH`: sign, magnitude, and where the number ends.
-fn int(s: &[u8], at: usize, end: usize, length: usize) -> Line {
-    match binary_buffer::read_int(s, at, end, length) {
-        Int::Value {
-            negative,
-            first,
-            rest: _,
-            end: after,
-        } => {
-            magnitude(
-                sign(negative),
-                first,
-                binary_buffer::read_int_rest(s, at, end, length),
-            )
-            .position(after)
-        }
-        Int::Refused(refusal) => refused(refusal),
-    }
+pub fn int(alloc: Global, part: Part, length: usize) -> Answer {
+    let int = binary_buffer::read_int(part.s, part.at, part.end, length)?;
+    let rest = binary_buffer::read_int_rest(part.s, part.at, part.end, length);
+    let bytes = magnitude(alloc, int.first, rest)?;
+    Ok(format!(in alloc;
+        "{} {} {}",
+        sign(int.negative),
+        Hexadecimal(&bytes),
+        int.end
+    )?)
 }
 
-fn kind(line: Line, kind: Kind) -> Line {
+fn kind_name(kind: Kind) -> &'static str {
     match kind {
-        Kind::Value => line.word(b"value"),
-        Kind::Null => line.word(b"null"),
-        Kind::Pad => line.word(b"pad"),
-        Kind::Marker => line.word(b"marker"),
-        Kind::Wrapper => line.word(b"wrapper"),
-        Kind::Reserved => line.word(b"reserved"),
+        Kind::Value => "value",
+        Kind::Null => "null",
+        Kind::Pad => "pad",
+        Kind::Marker => "marker",
+        Kind::Wrapper => "wrapper",
+        Kind::Reserved => "reserved",
     }
 }
 
 // `descriptor BYTE`: type code, length code and kind.
-fn descriptor(s: &[u8]) -> Line {
-    if s.len() == 0 {
-        return Line::new().word(b"nothing");
-    }
-    let d = TypeDescriptor::from_byte(s[0]);
-    let k = d.kind;
-    kind(
-        Line::new()
-            .number(d.type_code as u64)
-            .number(d.length_code as u64),
-        k,
-    )
-}
-
-// The answer to a question on numbers and descriptors, and nothing where it is on something else.
-pub fn answer(asked: &[u8], s: &[u8], at: usize, end: usize, length: usize) -> Line {
-    match asked {
-        b"varuint" => var_uint(s, at, end),
-        b"varint" => var_int(s, at, end),
-        b"int" => int(s, at, end, length),
-        b"intparts" => int_parts(s, at, end, length),
-        b"descriptor" => descriptor(s),
-        _ => Line::new(),
-    }
+pub fn descriptor(alloc: Global, s: &[u8]) -> Answer {
+    let Some(byte) = s.first() else {
+        return Ok(String::from_str(alloc, "nothing")?);
+    };
+    let TypeDescriptor {
+        type_code,
+        length_code,
+        kind,
+    } = TypeDescriptor::from_byte(*byte);
+    Ok(format!(in alloc; "{type_code} {length_code} {}", kind_name(kind))?)
 }

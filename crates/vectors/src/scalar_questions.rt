@@ -1,126 +1,51 @@
 // The answers to questions on values: reading a scalar, and stepping into a container.
-use crate::number_questions::refused;
-use questions::text::Line;
-use stepping::cursor::{Cursor, Rules};
+use crate::answering::{Answer, Part, sign};
+use listing::type_name;
+use questions::hexadecimal::Hexadecimal;
+use std::alloc::{AllocError, Global};
+use stepping::cursor::Rules;
 use values::value;
-use values::value::{Body, Scalar};
+use values::value::{Scalar, Span};
 
-// The name of a type. That of an int is by the code 2 alone.
-pub fn type_name(line: Line, type_code: u8) -> Line {
-    match type_code {
-        0 => line.word(b"null"),
-        1 => line.word(b"bool"),
-        2 => line.word(b"int"),
-        4 => line.word(b"float"),
-        5 => line.word(b"decimal"),
-        6 => line.word(b"timestamp"),
-        7 => line.word(b"symbol"),
-        8 => line.word(b"string"),
-        9 => line.word(b"clob"),
-        10 => line.word(b"blob"),
-        11 => line.word(b"list"),
-        12 => line.word(b"sexp"),
-        13 => line.word(b"struct"),
-        _ => line.word(b"no type"),
-    }
-}
-
-fn truth(value: bool) -> Line {
-    if value {
-        Line::new().word(b"bool 1")
-    } else {
-        Line::new().word(b"bool 0")
-    }
-}
-
-fn sign(negative: bool) -> Line {
-    if negative {
-        Line::new().word(b"int negative ")
-    } else {
-        Line::new().word(b"int positive ")
-    }
-}
-
-// The lowest eight bits.
-fn low(bits: u64) -> u8 {
-    (bits % 256) as u8
-}
-
-// Sixty-four bits as sixteen digits.
-fn float(bits: u64) -> Line {
-    Line::new()
-        .word(b"float ")
-        .hex_byte(low(bits / 0x100_0000_0000_0000))
-        .hex_byte(low(bits / 0x1_0000_0000_0000))
-        .hex_byte(low(bits / 0x100_0000_0000))
-        .hex_byte(low(bits / 0x1_0000_0000))
-        .hex_byte(low(bits / 0x100_0000))
-        .hex_byte(low(bits / 0x1_0000))
-        .hex_byte(low(bits / 0x100))
-        .hex_byte(low(bits))
-}
-
-fn span(name: &[u8], start: usize, end: usize) -> Line {
-    Line::new().word(name).position(start).position(end)
+fn span(alloc: Global, name: &str, Span { start, end }: Span) -> Result<String, AllocError> {
+    format!(in alloc; "{name} {start} {end}")
 }
 
 // `scalar BYTES AT END POSITION LIMIT`: what the value at a position of the part reads as. The bytes of an int are those of the
 // reading's part.
-fn scalar(s: &[u8], at: usize, end: usize, position: usize, limit: usize) -> Line {
-    match value::read(s, at, end, position, limit) {
-        Scalar::Null { type_code } => type_name(Line::new().word(b"null"), type_code),
-        Scalar::Bool { value } => truth(value),
-        Scalar::Int {
-            negative,
-            start: _,
-            end: _,
-        } => sign(negative).hex_bytes(value::read_part(s, at, end, position, limit)),
-        Scalar::Float { bits } => float(bits),
-        Scalar::Decimal { start, end: past } => span(b"decimal", start, past),
-        Scalar::Timestamp { start, end: past } => span(b"timestamp", start, past),
-        Scalar::Symbol { id } => Line::new().word(b"symbol").number(id),
-        Scalar::Text { start, end: past } => span(b"string", start, past),
-        Scalar::Clob { start, end: past } => span(b"clob", start, past),
-        Scalar::Blob { start, end: past } => span(b"blob", start, past),
-        Scalar::Container => Line::new().word(b"container"),
-        Scalar::Refused(refusal) => refused(refusal),
-    }
+pub fn scalar(alloc: Global, part: Part, position: usize, limit: usize) -> Answer {
+    let said = match value::read(part.s, part.at, part.end, position, limit)? {
+        Scalar::Null { type_code } => format!(in alloc; "null {}", type_name(type_code)),
+        Scalar::Bool(value) => format!(in alloc; "bool {}", u8::from(value)),
+        Scalar::Int { negative, .. } => {
+            let bytes = value::read_part(part.s, part.at, part.end, position, limit);
+            format!(in alloc; "int {} {}", sign(negative), Hexadecimal(bytes))
+        }
+        Scalar::Float { bits } => format!(in alloc; "float {bits:016X}"),
+        Scalar::Decimal(body) => span(alloc, "decimal", body),
+        Scalar::Timestamp(body) => span(alloc, "timestamp", body),
+        Scalar::Symbol { id } => format!(in alloc; "symbol {id}"),
+        Scalar::Text(body) => span(alloc, "string", body),
+        Scalar::Clob(body) => span(alloc, "clob", body),
+        Scalar::Blob(body) => span(alloc, "blob", body),
+        Scalar::Container => String::from_str(alloc, "container"),
+    };
+    Ok(said?)
 }
 
 // `part BYTES AT END POSITION LIMIT`: the bytes of that reading's part, `-` where there are none.
-fn part(s: &[u8], at: usize, end: usize, position: usize, limit: usize) -> Line {
-    Line::new().hex_bytes(value::read_part(s, at, end, position, limit))
-}
-
-fn body(rules: Rules, cursor: Cursor) -> Line {
-    match rules {
-        Rules::Stream => span(b"stream", cursor.at, cursor.end),
-        Rules::Sequence => span(b"sequence", cursor.at, cursor.end),
-        Rules::Fields => span(b"struct", cursor.at, cursor.end),
-    }
+pub fn read_part(alloc: Global, part: Part, position: usize, limit: usize) -> Answer {
+    let bytes = value::read_part(part.s, part.at, part.end, position, limit);
+    Ok(format!(in alloc; "{}", Hexadecimal(bytes))?)
 }
 
 // `stepin BYTES AT END POSITION LIMIT`: the rules of the container's body, and where it starts and ends.
-fn step_in(s: &[u8], at: usize, end: usize, position: usize, limit: usize) -> Line {
-    match value::step_in(s, at, end, position, limit) {
-        Body::Open { rules, cursor } => body(rules, cursor),
-        Body::Refused(refusal) => refused(refusal),
-    }
-}
-
-// The answer to a question on values, and nothing where it is on something else.
-pub fn answer(
-    asked: &[u8],
-    s: &[u8],
-    at: usize,
-    end: usize,
-    position: usize,
-    limit: usize,
-) -> Line {
-    match asked {
-        b"scalar" => scalar(s, at, end, position, limit),
-        b"part" => part(s, at, end, position, limit),
-        b"stepin" => step_in(s, at, end, position, limit),
-        _ => Line::new(),
-    }
+pub fn step_in(alloc: Global, part: Part, position: usize, limit: usize) -> Answer {
+    let body = value::step_in(part.s, part.at, part.end, position, limit)?;
+    let name = match body.rules {
+        Rules::Stream => "stream",
+        Rules::Sequence => "sequence",
+        Rules::Fields => "struct",
+    };
+    Ok(format!(in alloc; "{name} {} {}", body.cursor.at, body.cursor.end)?)
 }

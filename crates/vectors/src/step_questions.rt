@@ -1,89 +1,86 @@
 // The answers to questions on steps: through a stream, a list's or sexp's body, a struct's body.
-use crate::frame_questions::places;
+use crate::answering::{Answer, Part, Refused, join, limit};
+use crate::frame_questions::Places;
 use framing::encoded_value::EncodedValue;
-use questions::text::Line;
-use stepping::cursor::{Cursor, Item, Rules, Step};
+use numbers::refusal::Refusal;
+use questions::words::Words;
+use std::alloc::Global;
+use std::fmt;
+use stepping::cursor::{Cursor, Item, Step};
 
-// A field begins where its ID does.
-fn field(line: Line, id: usize, start: usize, value: EncodedValue) -> Line {
-    line.word(b"field")
-        .position(id)
-        .number(value.byte as u64)
-        .position(start)
-        .position(value.annotations)
-        .position(value.descriptor)
-        .position(value.body)
-        .position(value.end)
-}
+// What a step says.
+#[derive(Clone, Copy)]
+struct Said(Result<Item, Refusal>);
 
-fn item(line: Line, item: Item) -> Line {
-    match item {
-        Item::End { position } => line.word(b"end").position(position),
-        Item::Marker {
-            start,
-            major,
-            minor,
-            end,
-        } => line
-            .word(b"marker")
-            .position(start)
-            .number(major as u64)
-            .number(minor as u64)
-            .position(end),
-        Item::Value(found) => places(line, found),
-        Item::Field {
-            id,
-            start,
-            value: found,
-        } => field(line, id, start, found),
-        Item::Refused(refusal) => line
-            .word(b"refused")
-            .number(refusal.number)
-            .position(refusal.position),
-    }
-}
-
-fn next(rules: Rules, s: &[u8], cursor: Cursor, limit: usize) -> Step {
-    match rules {
-        Rules::Stream => cursor.next_in_stream(s, limit),
-        Rules::Sequence => cursor.next_in_sequence(s, limit),
-        Rules::Fields => cursor.next_in_struct(s, limit),
+impl fmt::Display for Said {
+    fn fmt<W: fmt::Write>(&self, f: &mut fmt::Formatter<W>) -> fmt::Result {
+        match self.0 {
+            Ok(Item::End { position }) => write!(f, "end {position}"),
+            Ok(
+                Item::Marker {
+                    start,
+                    major,
+                    minor,
+                    end,
+                },
+            ) => write!(f, "marker {start} {major} {minor} {end}"),
+            Ok(Item::Value(value)) => write!(f, "{}", Places(value)),
+            // A field begins where its ID does.
+            Ok(Item::Field { id, start, value }) => {
+                let EncodedValue {
+                    annotations,
+                    descriptor,
+                    body,
+                    end,
+                    byte,
+                    ..
+                } = value;
+                write!(
+                    f,
+                    "field {id} {byte} {start} {annotations} {descriptor} {body} {end}"
+                )
+            }
+            Err(refusal) => write!(f, "{}", Refused(refusal)),
+        }
     }
 }
 
 // `stream BYTES AT END COUNT LIMIT`, `sequence ..` and `struct ..`: what so many steps say, each with the cursor that the one
 // before handed back.
-fn steps(rules: Rules, s: &[u8], at: usize, end: usize, count: usize, limit: usize) -> Line {
-    let mut line = Line::new();
-    let mut cursor = Cursor { at, end };
+pub fn steps<F>(alloc: Global, part: Part, words: &mut Words, next: F) -> Answer
+where
+    F: Fn(Cursor, &[u8], usize) -> Step + Drop,
+    requires { F.IsAlwaysCallable next }
+{
+    let count: usize = words.number();
+    let limit = limit(words);
+    let mut line = String::new(alloc);
+    let mut cursor = Cursor {
+        at: part.at,
+        end: part.end,
+    };
     for _ in 0..count {
-        let step = next(rules, s, cursor, limit);
-        let found = step.item;
-        line = item(line.joined(), found);
+        let step = next(cursor, part.s, limit);
+        join(&mut line, &Said(step.item))?;
         cursor = step.next;
     }
-    line
+    Ok(line)
 }
 
 // `streamleft BYTES AT END COUNT LIMIT`, `sequenceleft ..` and `structleft ..`: the cursor that so many steps leave.
-fn left(rules: Rules, s: &[u8], at: usize, end: usize, count: usize, limit: usize) -> Line {
-    let mut cursor = Cursor { at, end };
+pub fn left<F>(alloc: Global, part: Part, words: &mut Words, next: F) -> Answer
+where
+    F: Fn(Cursor, &[u8], usize) -> Step + Drop,
+    requires { F.IsAlwaysCallable next }
+{
+    let count: usize = words.number();
+    let limit = limit(words);
+    let mut cursor = Cursor {
+        at: part.at,
+        end: part.end,
+    };
     for _ in 0..count {
-        let step = next(rules, s, cursor, limit);
-        cursor = step.next;
+        cursor = next(cursor, part.s, limit).next;
     }
-    Line::new().position(cursor.at).position(cursor.end)
-}
-
-// The answer to a question on steps, and nothing where it is on something else.
-pub fn answer(asked: &[u8], s: &[u8], at: usize, end: usize, count: usize, limit: usize) -> Line {
-    match asked {
-        b"stream" => steps(Rules::Stream, s, at, end, count, limit),
-        b"sequence" => steps(Rules::Sequence, s, at, end, count, limit),
-        b"struct" => steps(Rules::Fields, s, at, end, count, limit),
-        b"streamleft" => left(Rules::Stream, s, at, end, count, limit),
-        b"sequenceleft" => left(Rules::Sequence, s, at, end, count, limit),
-        b"structleft" => left(Rules::Fields, s, at, end, count, limit),
-        _ => Line::new(),
-    }
+    Ok(format!(in alloc; "{} {}", cursor.at, cursor.end)?)
 }

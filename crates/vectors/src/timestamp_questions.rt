@@ -1,72 +1,72 @@
 // The answers to questions on timestamps' bodies.
-use crate::number_questions::refused;
-use questions::text;
-use questions::text::Line;
-use timestamps::timestamp;
-use timestamps::timestamp::{Stamp, Timestamp};
-
-fn sign(line: Line, negative: bool) -> Line {
-    if negative {
-        line.word(b"negative")
-    } else {
-        line.word(b"positive")
-    }
-}
-
-fn small(line: Line, field: u8) -> Line {
-    line.number(field as u64)
-}
-
-fn middle(line: Line, field: u16) -> Line {
-    line.number(field as u64)
-}
+use crate::answering::{Answer, Part, sign};
+use std::alloc::Global;
+use std::fmt;
+use timestamps::timestamp::{Stamp, read_timestamp};
 
 // The offset and 1440, or 0 where it is unknown, and the six fields.
-fn fields(line: Line, t: Stamp) -> Line {
-    let head = middle(middle(line, t.offset), t.year);
-    let date = small(small(head, t.month), t.day);
-    small(small(small(date, t.hour), t.minute), t.second)
+#[derive(Clone, Copy)]
+struct Fields(Stamp);
+
+impl fmt::Display for Fields {
+    fn fmt<W: fmt::Write>(&self, f: &mut fmt::Formatter<W>) -> fmt::Result {
+        let Stamp {
+            offset,
+            year,
+            month,
+            day,
+            hour,
+            minute,
+            second,
+            ..
+        } = self.0;
+        write!(f, "{offset} {year} {month} {day} {hour} {minute} {second}")
+    }
 }
 
-// How far it goes, those, and sign and magnitude of the fraction's exponent, and its coefficient.
-fn stamp(t: Stamp) -> Line {
-    let line = fields(small(Line::new(), t.precision), t);
-    sign(line, t.exponent_negative)
-        .position(t.exponent)
-        .number(t.coefficient)
-}
+// The most places of a fraction that are written.
+const PLACES: usize = 18;
 
 // The fraction in units of ten to the -18th, where it has no more places.
-fn attoseconds(line: Line, t: Stamp) -> Line {
-    if t.coefficient == 0 {
-        return line.number(0);
+#[derive(Clone, Copy)]
+struct Attoseconds(Stamp);
+
+impl fmt::Display for Attoseconds {
+    fn fmt<W: fmt::Write>(&self, f: &mut fmt::Formatter<W>) -> fmt::Result {
+        let Stamp {
+            exponent,
+            coefficient,
+            ..
+        } = self.0;
+        if coefficient == 0 {
+            return write!(f, "0");
+        }
+        if PLACES < exponent {
+            return write!(f, "more than {PLACES} places");
+        }
+        write!(f, "{coefficient}")?;
+        for _ in exponent..PLACES {
+            write!(f, "0")?;
+        }
+        Ok(())
     }
-    if 18 < t.exponent {
-        return line.word(b"more than 18 places");
-    }
-    let zeros = text::part(b"000000000000000000", 0, 18 - t.exponent);
-    line.number(t.coefficient).bytes_of(zeros)
 }
 
-// How far it goes, a fraction as a second, the offset and the fields, and the fraction by its value.
-fn instant(t: Stamp) -> Line {
-    let precision = if t.precision < 5 { t.precision } else { 5 };
-    attoseconds(fields(small(Line::new(), precision), t), t)
+// `timestamp BYTES START END DESCRIPTOR`: how far it goes, the offset and the fields, sign and magnitude of the fraction's exponent, and its coefficient.
+pub fn timestamp(alloc: Global, part: Part, descriptor: usize) -> Answer {
+    let t = read_timestamp(part.s, part.at, part.end, descriptor)?;
+    Ok(format!(in alloc;
+        "{} {} {} {} {}",
+        t.precision,
+        Fields(t),
+        sign(t.exponent_negative),
+        t.exponent,
+        t.coefficient
+    )?)
 }
 
-// `timestamp BYTES START END DESCRIPTOR`, and `instant BYTES START END`.
-fn read(s: &[u8], start: usize, end: usize, descriptor: usize, whole: bool) -> Line {
-    match timestamp::read_timestamp(s, start, end, descriptor) {
-        Timestamp::Value(t) => if whole { stamp(t) } else { instant(t) },
-        Timestamp::Refused(refusal) => refused(refusal),
-    }
-}
-
-// The answer to a question on a timestamp's body, and nothing where it is on something else.
-pub fn answer(asked: &[u8], s: &[u8], start: usize, end: usize, descriptor: usize) -> Line {
-    match asked {
-        b"timestamp" => read(s, start, end, descriptor, true),
-        b"instant" => read(s, start, end, 0, false),
-        _ => Line::new(),
-    }
+// `instant BYTES START END`: how far it goes, a fraction as a second, the offset and the fields, and the fraction by its value.
+pub fn instant(alloc: Global, part: Part) -> Answer {
+    let t = read_timestamp(part.s, part.at, part.end, 0)?;
+    Ok(format!(in alloc; "{} {} {}", t.precision.min(5), Fields(t), Attoseconds(t))?)
 }

@@ -35,7 +35,7 @@ module _ (limit deepest : ℕ) (s : List ℕ) (w : Walk) where
   one_called e h q = rw (q, e, h)
 
 -- behind an item the state's own place is no matter
-after_moved : (deepest : ℕ) (w : Walk) (k from : ℕ) (deep : Bool) (d : ℕ) (o : Outcome Item) → is_last o ≡ false → state_after_answer deepest w d o ≡ state_after_answer deepest (moved_to w k from deep) d o
+pub after_moved : (deepest : ℕ) (w : Walk) (k from : ℕ) (deep : Bool) (d : ℕ) (o : Outcome Item) → is_last o ≡ false → state_after_answer deepest w d o ≡ state_after_answer deepest (moved_to w k from deep) d o
 unfolding state_after_value
 after_moved deepest w k from deep d (gives (finish p)) h = absurd (true≢false h)
 after_moved deepest w k from deep d (gives (marker a x y e)) h = refl

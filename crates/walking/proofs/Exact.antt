@@ -16,30 +16,40 @@ use Rattle.stepping.specs.Items.{Item, finish, value, field}
 use Rattle.stepping.specs.declared.cursor.Rules.TheVariants.{Stream}
 use Rattle.stepping.proofs.Places.{ValueIn, ItemIn, a_marker, a_value, a_field}
 use Rattle.stepping.proofs.Moves.{Moves, ends, hands, stops, moves}
-use Rattle.walking.specs.Walk.{limits_out, parts, Visit, visit, behind, following, whole_walk}
-use Rattle.walking.specs.Calls.{start_of, end_at, rules_at, or_above, seek, moved_to, state_after_value, state_after_visit, visit_of, calls, state_after}
+use Rattle.walking.specs.Walk.{limits_out, parts as most_parts, Visit, visit, behind, following, whole_walk}
+use Rattle.walking.specs.Calls.{no_part, start_of, end_at, rules_at, or_above, seek, moved_to, state_after_value, state_after_visit, visit_of, calls, state_after}
 use Rattle.stepping.specs.Leaving.{is_last}
 use Rattle.values.specs.Scalars.{is_container, body_rules, type_of}
 use Rattle.walking.specs.Private.State.{rules_by}
 use Rattle.walking.specs.Theorems.{Exact, NeverOutside}
+use Rattle.walking.specs.declared.walk.Part.{Part}
 use Rattle.walking.specs.declared.walk.Walk.{Walk}
 use Rattle.walking.proofs.Depths.{in_limit, depth_room}
 use Rattle.walking.proofs.Seeking.{visit_unranged, visit_seek, visit_barred}
 use Rattle.walking.proofs.Unrolled.{full, unrolled}
 
+-- a part of a list of them, and its end
+abbrev part : List Part → ℕ → Part
+part ps d = get_or ps d no_part
+
+abbrev end : List Part → ℕ → ℕ
+end ps d = (part ps d).end
+
 -- the ends of the parts of depth 0 to d lie in each other and in the map
-abbrev Nested : List ℕ → List ℕ → ℕ → Type 0
-Nested s es zero = get_or es 0 0 ≤ length s
-Nested s es (suc d) = (get_or es (suc d) 0 ≤ get_or es d 0) × Nested s es d
+abbrev Nested : List ℕ → List Part → ℕ → Type 0
+Nested s ps zero = end ps 0 ≤ length s
+Nested s ps (suc d) = (end ps (suc d) ≤ end ps d) × Nested s ps d
 
-nested_in : (s es : List ℕ) (d : ℕ) → Nested s es d → get_or es d 0 ≤ length s
-nested_in s es zero n = n
-nested_in s es (suc d) n = omega (arith, n.0, nested_in s es d n.1)
+nested_in : (s : List ℕ) (ps : List Part) (d : ℕ) → Nested s ps d → end ps d ≤ length s
+nested_in s ps zero n = n
+nested_in s ps (suc d) n = omega (arith, n.0, nested_in s ps d n.1)
 
-nested_same : (s es es' : List ℕ) (d : ℕ) → ((i : ℕ) → i ≤ d → get_or es i 0 ≡ get_or es' i 0) → Nested s es d → Nested s es' d
-nested_same s es es' zero h n = omega (arith, n, h 0 (omega arith))
-nested_same s es es' (suc d) h n =
-    (omega (arith, n.0, h (suc d) (omega arith), h d (omega arith)), nested_same s es es' d (λ i l. h i (omega arith)) n.1)
+nested_same : (s : List ℕ) (ps ps' : List Part) (d : ℕ) → ((i : ℕ) → i ≤ d → part ps i ≡ part ps' i) → Nested s ps d → Nested s ps' d
+nested_same s ps ps' zero h n = omega (arith, n, ap (λ (p : Part). p.end) (h 0 (omega arith)))
+nested_same s ps ps' (suc d) h n =
+    let e = ap (λ (p : Part). p.end) (h (suc d) (omega arith)) in
+    let f = ap (λ (p : Part). p.end) (h d (omega arith)) in
+    (omega (arith, n.0, e, f), nested_same s ps ps' d (λ i l. h i (omega arith)) n.1)
 
 take_nil : (n : ℕ) → ◌≡◌ {A = List Visit} [] (take n [])
 take_nil zero = refl
@@ -48,29 +58,30 @@ take_nil (suc n) = refl
 -- a state that a walk from the start reaches
 record Fit (deepest : ℕ) (s : List ℕ) (w : Walk) : Type 0 where
   depth : w.depth ≤ deepest
-  ends : length w.ends ≡ parts
-  fields : length w.fields ≡ parts
+  parts : length w.parts ≡ most_parts
   at : w.at ≤ end_at w w.depth
-  nested : Nested s w.ends w.depth
+  nested : Nested s w.parts w.depth
 
 module _ (limit deepest : ℕ) (s : List ℕ) (ranged : limits_out limit deepest ≡ false) where
   -- what comes behind the part of depth d, and what is left at `at` in it
-  unfoldable outer : List ℕ → List Bool → ℕ → List Visit
-  outer es fs zero = visit 0 (gives (finish (get_or es 0 0))) ∷ []
-  outer es fs (suc d) = full limit deepest s (rules_by d (get_or fs d false)) d (get_or es d 0) (get_or es (suc d) 0) (outer es fs d)
+  unfoldable outer : List Part → ℕ → List Visit
+  outer ps zero = visit 0 (gives (finish (end ps 0))) ∷ []
+  outer ps (suc d) = full limit deepest s (rules_by d (part ps d).fields) d (end ps d) (end ps (suc d)) (outer ps d)
 
-  abbrev remain : List ℕ → List Bool → ℕ → ℕ → List Visit
-  remain es fs d at = full limit deepest s (rules_by d (get_or fs d false)) d (get_or es d 0) at (outer es fs d)
+  abbrev remain : List Part → ℕ → ℕ → List Visit
+  remain ps d at = full limit deepest s (rules_by d (part ps d).fields) d (end ps d) at (outer ps d)
 
-  outer_same : (es es' : List ℕ) (fs fs' : List Bool) (d : ℕ) → ((i : ℕ) → i ≤ d → get_or es i 0 ≡ get_or es' i 0) → ((i : ℕ) → i ≤ d → get_or fs i false ≡ get_or fs' i false) → outer es fs d ≡ outer es' fs' d
+  outer_same : (ps ps' : List Part) (d : ℕ) → ((i : ℕ) → i ≤ d → part ps i ≡ part ps' i) → outer ps d ≡ outer ps' d
   unfolding outer
-  outer_same es es' fs fs' zero h k = rw (h 0 (omega arith))
-  outer_same es es' fs fs' (suc d) h k =
-      rw (h d (omega arith), h (suc d) (omega arith), k d (omega arith), outer_same es es' fs fs' d (λ i l. h i (omega arith)) (λ i l. k i (omega arith)))
+  outer_same ps ps' zero h = ap (λ (p : Part). visit 0 (gives (finish p.end)) ∷ []) (h 0 (omega arith))
+  outer_same ps ps' (suc d) h =
+      ap (λ (p : Part). full limit deepest s (rules_by d p.fields) d p.end (end ps (suc d)) (outer ps d)) (h d (omega arith))
+      ∙ ap (λ (p : Part). full limit deepest s (rules_by d (part ps' d).fields) d (end ps' d) p.end (outer ps d)) (h (suc d) (omega arith))
+      ∙ ap (full limit deepest s (rules_by d (part ps' d).fields) d (end ps' d) (end ps' (suc d))) (outer_same ps ps' d (λ i l. h i (omega arith)))
 
   -- what is left at a state
   abbrev left : Walk → List Visit
-  left w = pick w.deep (visit w.depth (refuses 37 w.at) ∷ []) (remain w.ends w.fields w.depth w.at)
+  left w = pick w.deep (visit w.depth (refuses 37 w.at) ∷ []) (remain w.parts w.depth w.at)
 
   -- what is left is an answer and what is left behind it, at a state that the walk reaches; and the answer is not 50
   record Goes (w : Walk) (xs : List Visit) (v : Visit) : Type 0 where
@@ -81,50 +92,53 @@ module _ (limit deepest : ℕ) (s : List ℕ) (ranged : limits_out limit deepest
   gives_other : {i : Item} (p : ℕ) → ◌≡◌ {A = Outcome Item} (gives i) (refuses 50 p) → ⊥
   gives_other p e = absurd (let z : ◌≡◌ {A = ℕ} 0 1 = cc in omega arith)
 
-  module _ (w : Walk) (fit : Fit deepest s w) (d : ℕ) (l : d ≤ deepest) (n : Nested s w.ends d) where
+  module _ (w : Walk) (fit : Fit deepest s w) (d : ℕ) (l : d ≤ deepest) (n : Nested s w.parts d) where
     moved : (at : ℕ) (deep : Bool) → at ≤ end_at w d → Fit deepest s (moved_to w d at deep)
-    moved at deep k = record { depth = l; ends = fit.ends; fields = fit.fields; at = k; nested = n }
+    moved at deep k = record { depth = l; parts = fit.parts; at = k; nested = n }
 
     -- the parts up to d are the same in the state of a container's body
-    kept_end : (e i : ℕ) → i ≤ d → get_or w.ends i 0 ≡ get_or (set w.ends (suc d) e) i 0
-    kept_end e i k = sym (get_or-set_other w.ends (suc d) i e 0 (λ q. omega arith))
-
-    kept_field : (b : Bool) (i : ℕ) → i ≤ d → get_or w.fields i false ≡ get_or (set w.fields (suc d) b) i false
-    kept_field b i k = sym (get_or-set_other w.fields (suc d) i b false (λ q. omega arith))
+    kept : (p : Part) (i : ℕ) → i ≤ d → part w.parts i ≡ part (set w.parts (suc d) p) i
+    kept p i k = sym (get_or-set_other w.parts (suc d) i p no_part (λ q. omega arith))
 
     abbrev onward : ℕ → List Visit
-    onward e = full limit deepest s (rules_by d (get_or w.fields d false)) d (end_at w d) e (outer w.ends w.fields d)
+    onward e = full limit deepest s (rules_by d (part w.parts d).fields) d (end_at w d) e (outer w.parts d)
+
+    abbrev body_part : Spans → Part
+    body_part v = record { end = v.end; fields = eqb (type_of v) 13 }
 
     abbrev entered : Spans → Walk
-    entered v =
-        record {
-          ends = set w.ends (suc d) v.end;
-          fields = set w.fields (suc d) (eqb (type_of v) 13);
-          depth = suc d;
-          at = v.body;
-          deep = false;
-        }
+    entered v = record { parts = set w.parts (suc d) (body_part v); depth = suc d; at = v.body; deep = false }
 
-    new_end : (v : Spans) → d < deepest → get_or (set w.ends (suc d) v.end) (suc d) 0 ≡ v.end
-    new_end v b = get_or-set_same w.ends (suc d) v.end 0 (omega (arith, fit.ends, depth_room limit deepest ranged))
+    new_part : (p : Part) → d < deepest → part (set w.parts (suc d) p) (suc d) ≡ p
+    new_part p b = get_or-set_same w.parts (suc d) p no_part (omega (arith, fit.parts, depth_room limit deepest ranged))
 
-    new_field : (v : Spans) → d < deepest → get_or (set w.fields (suc d) (eqb (type_of v) 13)) (suc d) false ≡ eqb (type_of v) 13
-    new_field v b = get_or-set_same w.fields (suc d) (eqb (type_of v) 13) false (omega (arith, fit.fields, depth_room limit deepest ranged))
+    outer_below : (ps : List Part) → ((i : ℕ) → i ≤ d → part w.parts i ≡ part ps i) → full limit deepest s (rules_by d (part w.parts d).fields) d (end w.parts d) (end ps (suc d)) (outer w.parts d) ≡ outer ps (suc d)
+    unfolding outer
+    outer_below ps h =
+        ap (λ (x : Part). full limit deepest s (rules_by d x.fields) d x.end (end ps (suc d)) (outer w.parts d)) (h d (omega arith))
+        ∙ ap (full limit deepest s (rules_by d (part ps d).fields) d (end ps d) (end ps (suc d))) (outer_same w.parts ps d h)
 
     enters : (v : Spans) → d < deepest → full limit deepest s (body_rules v) (suc d) v.end v.body (onward v.end) ≡ left (entered v)
     unfolding outer
     enters v b =
+        let p = body_part v in
+        let ps = set w.parts (suc d) p in
         let z : eqb (suc d) 0 ≡ false = ne_eqb (suc d) 0 (λ q. omega arith) in
-        rw (z, new_end v b, new_field v b, sym (kept_end v.end d (omega arith)), sym (kept_field (eqb (type_of v) 13) d (omega arith)), sym (outer_same w.ends (set w.ends (suc d) v.end) w.fields (set w.fields (suc d) (eqb (type_of v) 13)) d (kept_end v.end) (kept_field (eqb (type_of v) 13))))
+        let e : full limit deepest s (body_rules v) (suc d) v.end v.body (onward v.end) ≡ full limit deepest s (rules_by (suc d) p.fields) (suc d) p.end v.body (full limit deepest s (rules_by d (part w.parts d).fields) d (end w.parts d) p.end (outer w.parts d)) = rw z in
+        e
+        ∙ ap (λ (x : Part). full limit deepest s (rules_by (suc d) x.fields) (suc d) x.end v.body (full limit deepest s (rules_by d (part w.parts d).fields) d (end w.parts d) x.end (outer w.parts d))) (sym (new_part p b))
+        ∙ ap (full limit deepest s (rules_by (suc d) (part ps (suc d)).fields) (suc d) (end ps (suc d)) v.body) (outer_below ps (kept p))
 
     enters_fit : (v : Spans) → d < deepest → v.body ≤ v.end → v.end ≤ end_at w d → Fit deepest s (entered v)
     enters_fit v b i k =
+        let p = body_part v in
+        let e = ap (λ (x : Part). x.end) (new_part p b) in
+        let f = ap (λ (x : Part). x.end) (kept p d (omega arith)) in
         record {
           depth = b;
-          ends = length-set w.ends (suc d) v.end ∙ fit.ends;
-          fields = length-set w.fields (suc d) (eqb (type_of v) 13) ∙ fit.fields;
-          at = omega (arith, i, new_end v b);
-          nested = (omega (arith, k, new_end v b, kept_end v.end d (omega arith)), nested_same s w.ends (set w.ends (suc d) v.end) d (kept_end v.end) n);
+          parts = length-set w.parts (suc d) p ∙ fit.parts;
+          at = omega (arith, i, e);
+          nested = (omega (arith, k, e, f), nested_same s w.parts (set w.parts (suc d) p) d (kept p) n);
         }
 
     -- behind a value
@@ -140,7 +154,7 @@ module _ (limit deepest : ℕ) (s : List ℕ) (ranged : limits_out limit deepest
     behind_value v i = at_value v i (is_container v) (eqb d deepest) refl
 
     abbrev follows : Outcome Item → List Visit
-    follows o = following deepest d (outer w.ends w.fields d) (full limit deepest s) onward o
+    follows o = following deepest d (outer w.parts d) (full limit deepest s) onward o
 
     handed : {at : ℕ} {i : Item} → ItemIn at (end_at w d) i → Goes w (follows (gives i)) (visit d (gives i))
     handed (a_marker {e = e} p q) = record { list = refl; fit = moved e false q; other = gives_other }
@@ -155,22 +169,22 @@ module _ (limit deepest : ℕ) (s : List ℕ) (ranged : limits_out limit deepest
     stopped {m} x = record { list = refl; fit = fit; other = λ q e. x (let z : m ≡ 50 = cc in z) }
 
   -- from a place in the part of depth d
-  goes : (w : Walk) → Fit deepest s w → (d at : ℕ) → d ≤ deepest → at ≤ end_at w d → Nested s w.ends d → Goes w (remain w.ends w.fields d at) (seek limit s w d at)
+  goes : (w : Walk) → Fit deepest s w → (d at : ℕ) → d ≤ deepest → at ≤ end_at w d → Nested s w.parts d → Goes w (remain w.parts d at) (seek limit s w d at)
   unfolding seek outer
   goes w fit zero at l k n =
       let g = go (moves limit Stream s (end_at w 0) n at k) in
-      record { list = unrolled limit deepest s (in_limit limit deepest ranged) Stream 0 (end_at w 0) at (outer w.ends w.fields 0) k n ∙ g.list; fit = g.fit; other = g.other }
+      record { list = unrolled limit deepest s (in_limit limit deepest ranged) Stream 0 (end_at w 0) at (outer w.parts 0) k n ∙ g.list; fit = g.fit; other = g.other }
     where
       go : {o : Outcome Item} → Moves at (end_at w 0) o → Goes w (follows w fit 0 l n o) (visit 0 o)
       go ends = record { list = refl; fit = moved w fit 0 l n (end_at w 0) false (omega arith); other = gives_other }
       go (hands i) = handed w fit 0 l n i
       go (stops x) = stopped w fit 0 l n x
   goes w fit (suc d) at l k n =
-      let m : end_at w (suc d) ≤ length s = nested_in s w.ends (suc d) n in
+      let m : end_at w (suc d) ≤ length s = nested_in s w.parts (suc d) n in
       let g = go (goes w fit d (end_at w (suc d)) (omega arith) n.0 n.1) (moves limit (rules_at w (suc d)) s (end_at w (suc d)) m at k) in
-      record { list = unrolled limit deepest s (in_limit limit deepest ranged) (rules_at w (suc d)) (suc d) (end_at w (suc d)) at (outer w.ends w.fields (suc d)) k m ∙ g.list; fit = g.fit; other = g.other }
+      record { list = unrolled limit deepest s (in_limit limit deepest ranged) (rules_at w (suc d)) (suc d) (end_at w (suc d)) at (outer w.parts (suc d)) k m ∙ g.list; fit = g.fit; other = g.other }
     where
-      go : {o : Outcome Item} → Goes w (remain w.ends w.fields d (end_at w (suc d))) (seek limit s w d (end_at w (suc d))) → Moves at (end_at w (suc d)) o → Goes w (follows w fit (suc d) l n o) (or_above (suc d) (seek limit s w d) o)
+      go : {o : Outcome Item} → Goes w (remain w.parts d (end_at w (suc d))) (seek limit s w d (end_at w (suc d))) → Moves at (end_at w (suc d)) o → Goes w (follows w fit (suc d) l n o) (or_above (suc d) (seek limit s w d) o)
       go ih ends = ih
       go ih (hands (a_marker p q)) = handed w fit (suc d) l n (a_marker p q)
       go ih (hands (a_value i)) = handed w fit (suc d) l n (a_value i)
@@ -181,14 +195,14 @@ module _ (limit deepest : ℕ) (s : List ℕ) (ranged : limits_out limit deepest
   left_deep : (w : Walk) → w.deep ≡ true → left w ≡ visit w.depth (refuses 37 w.at) ∷ []
   left_deep w h = rw h
 
-  left_in : (w : Walk) → w.deep ≡ false → remain w.ends w.fields w.depth w.at ≡ left w
+  left_in : (w : Walk) → w.deep ≡ false → remain w.parts w.depth w.at ≡ left w
   left_in w h = rw h
 
   next : (w : Walk) → Fit deepest s w → Goes w (left w) (visit_of limit deepest s w)
   next w fit =
       by_case w.deep
       (λ h.
-      subst (Goes w (left w)) (sym (visit_barred limit deepest s w ranged fit.depth h fit.at (nested_in s w.ends w.depth fit.nested)))
+      subst (Goes w (left w)) (sym (visit_barred limit deepest s w ranged fit.depth h fit.at (nested_in s w.parts w.depth fit.nested)))
       (record { list = left_deep w h; fit = fit; other = λ p q. absurd (let z : ◌≡◌ {A = ℕ} 37 50 = cc in omega arith) }))
       (λ h.
       subst (Goes w (left w)) (sym (visit_seek limit deepest s w ranged fit.depth h))
@@ -210,7 +224,7 @@ module _ (limit deepest : ℕ) (s : List ℕ) (ranged : limits_out limit deepest
   start_end = refl
 
   start_fit : Fit deepest s (start_of s)
-  start_fit = record { depth = omega arith; ends = refl; fields = refl; at = omega arith; nested = omega arith }
+  start_fit = record { depth = omega arith; parts = refl; at = omega arith; nested = omega arith }
 
   start_left : left (start_of s) ≡ whole_walk limit deepest s
   unfolding whole_walk full outer

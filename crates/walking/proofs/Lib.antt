@@ -2,6 +2,7 @@ pub mod Depths
 pub mod Seeking
 pub mod Counting
 pub mod Turns
+pub mod Meeting
 pub mod Unrolled
 pub mod Exact
 pub mod Ending

@@ -9,20 +9,20 @@ use lib.Dec.{ltb, eqb}
 use mathlib.Core.Bool.{Bool, true, false, true≢false}
 use borrow.Author.Tests.{ltb-false, lt-ltb, le-ltb, eqb-true, eqb-false}
 use Rattle.numbers.specs.Outcome.{Outcome, gives, refuses, pick, outside_of}
+use Rattle.numbers.specs.declared.refusal.Refusal.{Refusal}
 use Rattle.numbers.proofs.Outcomes.{by_test, inside}
 use Rattle.framing.specs.Limits.{out_of_range}
 use Rattle.stepping.specs.Items.{Item, finish, marker, value, field}
 use Rattle.stepping.specs.Answers.{found, step_of, answer_at}
 use Rattle.stepping.specs.Leaving.{is_last}
-use Rattle.stepping.specs.Read.{item_read}
+use Rattle.stepping.specs.Read.{places_of}
 use Rattle.stepping.specs.declared.cursor.Item.{Item as ItemEnum}
-use Rattle.stepping.specs.declared.cursor.Item.TheVariants.{End, Marker, Value, Field, Refused}
+use Rattle.stepping.specs.declared.cursor.Item.TheVariants.{End, Marker, Value, Field}
 use Rattle.stepping.proofs.Places.{a_marker, a_value, a_field}
 use Rattle.stepping.proofs.Moves.{Moves, ends, hands, stops, moves, moves_end}
 use Rattle.walking.specs.Walk.{limits_out, Visit, visit}
 use Rattle.walking.specs.Calls.{end_at, rules_at, or_above, seek, moved_to, barred, visit_of}
 use Rattle.walking.specs.Theorems.{DepthBound}
-use Rattle.walking.specs.Private.State.{is_end, ends_body}
 use Rattle.walking.specs.declared.walk.Walk.{Walk}
 
 -- in the stream
@@ -52,13 +52,19 @@ unfolding seek
 here limit s w zero at o n h = rw h
 here limit s w (suc d) at o n h = sym (no_end (suc d) (seek limit s w d) o n) ∙ ap (or_above (suc d) (seek limit s w d)) h
 
--- a step's answer whose variant is not the first is no end
-pub not_end : (x : ItemEnum) → ((p : ℕ) → x ≡ End p → ⊥) → (p : ℕ) → item_read x ≡ gives (finish p) → ⊥
+-- an item that is no end, as an answer
+pub not_end : (x : ItemEnum) → ((p : ℕ) → x ≡ End p → ⊥) → (p : ℕ) → ◌≡◌ {A = Outcome Item} (gives (places_of x)) (gives (finish p)) → ⊥
 not_end (End p) l q e = absurd (l p refl)
 not_end (Marker a x y f) l q e = absurd (let z : ◌≡◌ {A = ℕ} 0 1 = cc in omega arith)
 not_end (Value v) l q e = absurd (let z : ◌≡◌ {A = ℕ} 0 1 = cc in omega arith)
 not_end (Field id a v) l q e = absurd (let z : ◌≡◌ {A = ℕ} 0 1 = cc in omega arith)
-not_end (Refused r) l q e = absurd (let z : ◌≡◌ {A = ℕ} 0 1 = cc in omega arith)
+
+-- an item that is no end is not the last answer
+pub handed : (x : ItemEnum) → ((p : ℕ) → x ≡ End p → ⊥) → is_last (gives (places_of x)) ≡ false
+handed (End p) l = absurd (l p refl)
+handed (Marker a x y f) l = refl
+handed (Value v) l = refl
+handed (Field id a v) l = refl
 
 -- what is sought is no deeper than where the search begins
 at_most : (d : ℕ) (up : ℕ → Visit) (o : Outcome Item) → ((p : ℕ) → (up p).depth ≤ d) → (or_above d up o).depth ≤ d
@@ -145,35 +151,6 @@ barred_last limit deepest s w h =
     (λ _. rw h (by_test (λ (v : Visit). is_last v.answer ≡ true) (outside_of s w.at (end_at w w.depth)) (λ _. refl) (λ _. refl))))
 
 -- the answer of a state, by what the step at its place answers
--- ---- the end of a body
-
-no_body : (d : ℕ) → pick (eqb d 0) false true ≡ false → d ≡ 0
-no_body d = by_test (λ b. b ≡ false → d ≡ 0) (eqb d 0) (λ z _. eqb-true d 0 z) (λ _ e. absurd (true≢false e))
-
-pub no_end_item : (x : ItemEnum) → ((p : ℕ) → x ≡ End p → ⊥) → is_end (item_read x) ≡ false
-no_end_item (End p) l = absurd (l p refl)
-no_end_item (Marker a x y f) l = refl
-no_end_item (Value v) l = refl
-no_end_item (Field id a v) l = refl
-no_end_item (Refused r) l = refl
-
--- it is of no stream, and an end
-pub record EndsBody (d : ℕ) (o : Outcome Item) : Type 0 where
-  pub below : d ≡ 0 → ⊥
-  pub place : ℕ
-  pub is : o ≡ gives (finish place)
-
-is-end : (d : ℕ) → (d ≡ 0 → ⊥) → (o : Outcome Item) → is_end o ≡ true → EndsBody d o
-is-end d n (gives (finish p)) e = record { below = n; place = p; is = refl }
-is-end d n (gives (marker a x y f)) e = absurd (true≢false (sym e))
-is-end d n (gives (value v)) e = absurd (true≢false (sym e))
-is-end d n (gives (field id a v)) e = absurd (true≢false (sym e))
-is-end d n (refuses k p) e = absurd (true≢false (sym e))
-
-pub ends-body : (d : ℕ) (o : Outcome Item) → ends_body d o ≡ true → EndsBody d o
-ends-body d o =
-    by_test (λ b. b ≡ true → EndsBody d o) (eqb d 0) (λ _ e. absurd (true≢false (sym e))) (λ z e. is-end d (eqb-false d 0 z) o e)
-
 module _ (limit deepest : ℕ) (s : List ℕ) (w : Walk) (g : limits_out limit deepest ≡ false) (l : w.depth ≤ deepest) (h : w.deep ≡ false) where
   visit_here : (o : Outcome Item) → ((p : ℕ) → o ≡ gives (finish p) → ⊥) → step_here limit s w ≡ o → visit_of limit deepest s w ≡ visit w.depth o
   visit_here o n e = visit_seek limit deepest s w g l h ∙ sym (here limit s w w.depth w.at o n (sym e))
@@ -191,14 +168,6 @@ module _ (limit deepest : ℕ) (s : List ℕ) (w : Walk) (g : limits_out limit d
   end_here {p} z e =
       let v : visit_of limit deepest s w ≡ visit w.depth (gives (finish p)) = visit_seek limit deepest s w g l h ∙ sym (in_stream limit s w w.depth w.at (gives (finish p)) z (sym e)) in
       ap (λ (x : Visit). is_last x.answer) v
-
-  -- the last answer of a part, where it ends no body
-  pub last_here : (o : Outcome Item) → ends_body w.depth o ≡ false → is_last o ≡ true → step_here limit s w ≡ o → is_last (visit_of limit deepest s w).answer ≡ true
-  last_here (gives (finish p)) b i e = end_here (no_body w.depth b) e
-  last_here (gives (marker a x y f)) b i e = absurd (true≢false (sym i))
-  last_here (gives (value v)) b i e = absurd (true≢false (sym i))
-  last_here (gives (field id a v)) b i e = absurd (true≢false (sym i))
-  last_here (refuses n p) b i e = refused_here e
 
   -- behind a body its end is a place in the part above, with the same answer
   pub above_here : {p : ℕ} → 1 ≤ w.depth → w.at ≤ end_at w w.depth → end_at w w.depth ≤ length s → step_here limit s w ≡ gives (finish p) → visit_of limit deepest s w ≡ visit_of limit deepest s (moved_to w (w.depth - 1) (end_at w w.depth) false)

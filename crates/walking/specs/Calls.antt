@@ -11,6 +11,7 @@ use Rattle.stepping.specs.declared.cursor.Rules.{Rules}
 use Rattle.stepping.specs.declared.cursor.Rules.TheVariants.{Stream, Sequence, Fields}
 use Rattle.values.specs.Scalars.{is_container, type_of}
 use Rattle.walking.specs.Walk.{limits_out, parts, Visit, visit}
+use Rattle.walking.specs.declared.walk.Part.{Part}
 use Rattle.walking.specs.declared.walk.Walk.{Walk}
 use Rattle.walking.specs.declared.walk.Walked.{Walked}
 
@@ -22,17 +23,21 @@ pub record Called : Type 0 where
 abbrev pub walked_read : Walked → Called
 walked_read r = record { visited = record { depth = r.depth; answer = item_read r.item }; next = r.next }
 
+-- what a state has at a depth that it has not reached
+abbrev pub no_part : Part
+no_part = record { end = 0; fields = false }
+
 -- the state at a map's start: one part, the stream
 abbrev pub start_of : List ℕ → Walk
 start_of s =
-    record { ends = set (replicate parts 0) 0 (length s); fields = replicate parts false; depth = 0; at = 0; deep = false }
+    record { parts = set (replicate parts no_part) 0 (record { end = length s; fields = false }); depth = 0; at = 0; deep = false }
 
 -- the part of depth d: where it ends, and its rules
 abbrev pub end_at : Walk → ℕ → ℕ
-end_at w d = get_or w.ends d 0
+end_at w d = (get_or w.parts d no_part).end
 
 abbrev pub rules_at : Walk → ℕ → Rules
-rules_at w d = pick (eqb d 0) Stream (pick (get_or w.fields d false) Fields Sequence)
+rules_at w d = pick (eqb d 0) Stream (pick (get_or w.parts d no_part).fields Fields Sequence)
 
 -- the answer of a step at depth d, where an end leads `up` to the part above
 abbrev pub or_above : ℕ → (ℕ → Visit) → Outcome Item → Visit
@@ -49,7 +54,7 @@ seek limit s w (suc d) at = or_above (suc d) (seek limit s w d) (answer_at limit
 
 -- the state at a place of depth d
 abbrev pub moved_to : Walk → ℕ → ℕ → Bool → Walk
-moved_to w d at deep = record { ends = w.ends; fields = w.fields; depth = d; at = at; deep = deep }
+moved_to w d at deep = record { parts = w.parts; depth = d; at = at; deep = deep }
 
 -- behind a value: in the body of a non-null container; before refusal 37 where that is too deep, its position the container's; else past the value
 unfoldable pub state_after_value : ℕ → Walk → ℕ → Spans → Walk
@@ -57,8 +62,7 @@ state_after_value deepest w d v =
     pick (is_container v)
     (pick (eqb d deepest) (moved_to w d v.descriptor true)
     (record {
-      ends = set w.ends (suc d) v.end;
-      fields = set w.fields (suc d) (eqb (type_of v) 13);
+      parts = set w.parts (suc d) (record { end = v.end; fields = eqb (type_of v) 13 });
       depth = suc d;
       at = v.body;
       deep = false;

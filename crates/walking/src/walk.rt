@@ -1,21 +1,21 @@
 // The walk of a whole map: markers and values in order, a container before what is in it, one step a call.
 //
 // `limit` is the most bytes that a value's annotations may have, `deepest` the depth at which a container is handed out and not entered.
-ghost use Rattle.std.specs.Prelude.{◌≡◌, ℕ, ◌-◌, ◌≤◌, ◌<◌, length, take, false};
-ghost use Rattle.numbers.specs.Outcome.{refuses};
-ghost use Rattle.framing.specs.Limits.{out_of_range};
+ghost use Rattle.std.specs.Prelude.{◌≡◌, ◌≤◌, length, take, true, false, MatchOption};
+ghost use Rattle.numbers.specs.Outcome.{gives, refuses};
+ghost use Rattle.numbers.specs.Refusals.{number_of};
 ghost use Rattle.framing.specs.Read.{spans_of};
-ghost use Rattle.stepping.specs.Read.{item_read};
+ghost use Rattle.stepping.specs.Read.{places_of};
 ghost use Rattle.walking.specs.Walk.{most_depth, limits_out, visit, whole_walk};
 ghost use Rattle.walking.specs.Calls.{start_of, seek, state_after_value, state_after_visit, visit_of, next_of, calls, items_in, walked_read};
-ghost use Rattle.walking.specs.Private.State.{rules_by, state_of, seen_read, MetAt, ends_body};
+ghost use Rattle.walking.specs.Private.State.{rules_by, seen_read, state_at};
 
 use framing::binary_buffer::{bare_value, short_value};
-use framing::encoded_value::{EncodedValue, ShortValue};
+use framing::encoded_value::EncodedValue;
 use framing::limits::out_of_range;
 use numbers::binary_buffer::outside;
-use numbers::refusal::{LIMIT_OUT_OF_RANGE, OUTSIDE, Refusal, TOO_DEEP};
-use stepping::cursor::{Item, Named, Rules, is_last, item_at, item_from, read_name};
+use numbers::refusal::{Reason, Refusal};
+use stepping::cursor::{Item, Rules, item_at, item_from, read_name};
 use values::value::is_container;
 
 // The range of the depth at which a container is too deep.
@@ -26,12 +26,17 @@ const MOST_DEPTH: usize = 64;
 // The parts that a walk can be in: the stream, and a body for each depth.
 pub const PARTS: usize = MOST_DEPTH + 1;
 
-// Where a walk is: the ends of the parts that it is in, by depth; which of them are bodies of structs; its depth and its position. `deep`: the container at
-// the position was handed out and is too deep to enter.
+// A part that a walk is in: where it ends, and whether it is the body of a struct.
+#[derive(Clone, Copy)]
+pub struct Part {
+    pub end: usize,
+    pub fields: bool,
+}
+
+// Where a walk is: the parts that it is in, by depth; its depth and its position. `deep`: the container at the position was handed out and is too deep to enter.
 #[derive(Clone, Copy)]
 pub struct Walk {
-    pub ends: [usize; PARTS],
-    pub fields: [bool; PARTS],
+    pub parts: [Part; PARTS],
     pub depth: usize,
     pub at: usize,
     pub deep: bool,
@@ -41,11 +46,12 @@ pub struct Walk {
 #[derive(Clone, Copy)]
 pub struct Walked {
     pub depth: usize,
-    pub item: Item,
+    pub item: Result<Item, Refusal>,
     pub next: Walk,
 }
 
-// What of a state is no array.
+// What of a walk is no part. The count holds it by itself, in registers: in a walk that is written to, it would be read from memory for each item, which takes
+// a tenth more time.
 #[derive(Clone, Copy)]
 struct Place {
     depth: usize,
@@ -57,7 +63,15 @@ struct Place {
 #[derive(Clone, Copy)]
 struct Seen {
     depth: usize,
-    item: Item,
+    item: Result<Item, Refusal>,
+}
+
+// The two limits of a call, each in its range.
+#[derive(Clone, Copy)]
+struct Limits {
+    bytes: usize,
+    depth: usize,
+    ghost in_range: { limits_out bytes depth ≡ false },
 }
 
 // Whether one of a walk's two limits is none.
@@ -67,10 +81,35 @@ pub fn limits_out(limit: usize, deepest: usize) -> bool
     if out_of_range(limit) {
         return true;
     }
-    if deepest < LEAST_DEPTH {
-        return true;
+    deepest < LEAST_DEPTH || MOST_DEPTH < deepest
+}
+
+impl Limits {
+    // None where one of the two is none.
+    fn new(limit: usize, deepest: usize) -> Option<Limits>
+        ensures { MatchOption result (limits_out limit deepest ≡ true) (λ l. (l.bytes ≡ limit) × (l.depth ≡ deepest)) }
+    {
+        if limits_out(limit, deepest) {
+            return None;
+        }
+        Some(Limits {
+            bytes: limit,
+            depth: deepest,
+        })
     }
-    MOST_DEPTH < deepest
+}
+
+impl Place {
+    // A place of this depth that is at no container too deep to enter.
+    fn new(depth: usize, at: usize) -> Place
+        ensures { result ≡ record { depth = depth; at = at; deep = false } }
+    {
+        Place {
+            depth,
+            at,
+            deep: false,
+        }
+    }
 }
 
 // The rules of a part of this depth: the stream's, or those of a body.
@@ -78,273 +117,31 @@ fn rules_at(depth: usize, fields: bool) -> Rules
     ensures { result ≡ rules_by depth fields }
 {
     if depth == 0 {
-        return Rules::Stream;
-    }
-    if fields {
-        return Rules::Fields;
-    }
-    Rules::Sequence
-}
-
-// The next answer from a place on, in the parts above where its part ends.
-fn find(s: &[u8], ends: &[usize; PARTS], fields: &[bool; PARTS], place: Place, limit: usize) -> Seen
-    requires { place.depth ≤ most_depth }
-    ensures { seen_read result ≡ seek limit s.now (state_of ends.now fields.now place) place.depth place.at }
-{
-    let mut depth = place.depth;
-    let mut at = place.at;
-    loop {
-        let rules = rules_at(depth, fields[depth]);
-        let item = item_at(rules, s, at, ends[depth], limit);
-        if depth == 0 {
-            return Seen { depth, item };
-        }
-        match item {
-            Item::End { position } => {
-                depth = depth - 1;
-                at = position;
-            }
-            _ => {
-                return Seen { depth, item };
-            }
-        }
+        Rules::Stream
+    } else if fields {
+        Rules::Fields
+    } else {
+        Rules::Sequence
     }
 }
 
-// The place behind a value that was handed out at this depth: in its body, if it is a container.
-fn pass_value(
-    ends: &mut [usize; PARTS],
-    fields: &mut [bool; PARTS],
-    place: Place,
-    depth: usize,
-    value: EncodedValue,
-    deepest: usize,
-) -> Place
-    requires { (depth ≤ deepest) × (deepest ≤ most_depth) }
-    ensures { state_of ends.new fields.new result ≡ state_after_value deepest (state_of ends.old fields.old place) depth (spans_of value) }
-{
-    if !is_container(value) {
-        return Place {
-            depth,
-            at: value.end,
-            deep: false,
-        };
-    }
-    if depth == deepest {
-        return Place {
-            depth,
-            at: value.descriptor,
-            deep: true,
-        };
-    }
-    let inner = depth + 1;
-    ends[inner] = value.end;
-    fields[inner] = value.byte / 16 == 13;
-    Place {
-        depth: inner,
-        at: value.body,
-        deep: false,
-    }
-}
-
-// The place behind an answer.
-fn pass_item(
-    ends: &mut [usize; PARTS],
-    fields: &mut [bool; PARTS],
-    place: Place,
-    depth: usize,
-    item: Item,
-    deepest: usize,
-) -> Place
-    requires { (depth ≤ deepest) × (deepest ≤ most_depth) }
-    ensures { state_of ends.new fields.new result ≡ state_after_visit deepest (state_of ends.old fields.old place) (visit depth (item_read item)) }
-{
-    match item {
-        Item::End { position } => Place {
-            depth,
-            at: position,
-            deep: false,
-        },
-        Item::Marker {
-            start: _,
-            major: _,
-            minor: _,
-            end,
-        } => Place {
-            depth,
-            at: end,
-            deep: false,
-        },
-        Item::Value(value) => pass_value(ends, fields, place, depth, value, deepest),
-        Item::Field {
-            id: _,
-            start: _,
-            value,
-        } => pass_value(ends, fields, place, depth, value, deepest),
-        Item::Refused(_) => place,
-    }
-}
-
-fn refused(depth: usize, number: u64, position: usize) -> Seen
-    ensures { seen_read result ≡ visit depth (refuses number position) }
+fn refused(depth: usize, reason: Reason, position: usize) -> Seen
+    ensures { seen_read result ≡ visit depth (refuses (number_of reason) position) }
 {
     Seen {
         depth,
-        item: Item::Refused(Refusal { number, position }),
+        item: Err(Refusal { reason, position }),
     }
-}
-
-// The answer at a place.
-fn look(
-    s: &[u8],
-    ends: &[usize; PARTS],
-    fields: &[bool; PARTS],
-    place: Place,
-    limit: usize,
-    deepest: usize,
-) -> Seen
-    requires { (limits_out limit deepest ≡ false) × (deepest ≤ most_depth) }
-    ensures { seen_read result ≡ visit_of limit deepest s.now (state_of ends.now fields.now place) }
-{
-    let depth = place.depth;
-    if deepest < depth {
-        return refused(0, OUTSIDE, 0);
-    }
-    if place.deep {
-        if outside(s, place.at, ends[depth]) {
-            return refused(0, OUTSIDE, 0);
-        }
-        return refused(depth, TOO_DEEP, place.at);
-    }
-    find(s, ends, fields, place, limit)
-}
-
-// What stands at a position before a part's end: a short value; else its name is read, and what stands behind it is still to be looked at; or its name is refused.
-#[derive(Clone, Copy)]
-enum Met {
-    Value(EncodedValue),
-    Behind { id: usize, next: usize },
-    Refused,
-}
-
-fn meet(rules: Rules, s: &[u8], at: usize, end: usize) -> Met
-    requires { (at < end) × (end ≤ length s.now) }
-    ensures { (limit : ℕ) → out_of_range limit ≡ false → MetAt limit rules s.now at end result }
-{
-    match read_name(rules, s, at, end) {
-        Named::At { id, next } => match short_value(s, next, end) {
-            ShortValue::Value { body, size } => {
-                let past = body + size;
-                Met::Value(bare_value(s[next], next, body, past))
-            }
-            ShortValue::Other => Met::Behind { id, next },
-        },
-        Named::Refused(_) => Met::Refused,
-    }
-}
-
-// The place behind a body of this depth, which ends at `end`.
-fn above(depth: usize, end: usize) -> Place
-    requires { 0 < depth }
-    ensures { result ≡ record { depth = depth - 1; at = end; deep = false } }
-{
-    Place {
-        depth: depth - 1,
-        at: end,
-        deep: false,
-    }
-}
-
-// Whether an answer is the end of a body of this depth, and not the stream's.
-fn ends_body(depth: usize, item: Item) -> bool
-    ensures { result ≡ ends_body depth (item_read item) }
-{
-    if depth == 0 {
-        return false;
-    }
-    match item {
-        Item::End { position: _ } => true,
-        _ => false,
-    }
-}
-
-// How many items at most `most` calls hand out from a place on.
-fn count_from(
-    s: &[u8],
-    ends: &mut [usize; PARTS],
-    fields: &mut [bool; PARTS],
-    from: Place,
-    most: u64,
-    limit: usize,
-    deepest: usize,
-) -> u64
-    requires { (limits_out limit deepest ≡ false) × (deepest ≤ most_depth) }
-    ensures { result ≡ items_in (calls limit deepest most s.now (state_of ends.old fields.old from)) }
-{
-    let mut place = from;
-    let mut count = 0;
-    while count < most {
-        let depth = place.depth;
-        if deepest < depth {
-            return count;
-        }
-        if place.deep {
-            return count;
-        }
-        let at = place.at;
-        let end = ends[depth];
-        if outside(s, at, end) {
-            return count;
-        }
-        if at == end {
-            if depth == 0 {
-                return count;
-            }
-            place = above(depth, end);
-            continue;
-        }
-        let rules = rules_at(depth, fields[depth]);
-        match meet(rules, s, at, end) {
-            Met::Value(value) => {
-                place = pass_value(ends, fields, place, depth, value, deepest);
-                count = count + 1;
-            }
-            Met::Behind { id, next } => {
-                let item = item_from(rules, s, at, id, next, end, limit);
-                if ends_body(depth, item) {
-                    place = above(depth, end);
-                    continue;
-                }
-                if is_last(item) {
-                    return count;
-                }
-                place = pass_item(ends, fields, place, depth, item, deepest);
-                count = count + 1;
-            }
-            Met::Refused => {
-                return count;
-            }
-        }
-    }
-    count
 }
 
 // How many items at most `most` calls of a map's walk hand out from its start: 0 where a limit is none.
 pub fn count_items(s: &[u8], most: u64, limit: usize, deepest: usize) -> u64
     ensures { result ≡ items_in (take most (whole_walk limit deepest s.now)) }
 {
-    if limits_out(limit, deepest) {
-        return 0;
+    match Limits::new(limit, deepest) {
+        Some(limits) => Walk::start(s).count(s, most, limits),
+        None => 0,
     }
-    let walk = Walk::start(s);
-    let mut ends = walk.ends;
-    let mut fields = walk.fields;
-    let place = Place {
-        depth: walk.depth,
-        at: walk.at,
-        deep: walk.deep,
-    };
-    count_from(s, &mut ends, &mut fields, place, most, limit, deepest)
 }
 
 impl Walk {
@@ -352,12 +149,14 @@ impl Walk {
     pub fn start(s: &[u8]) -> Self
         ensures { result ≡ start_of s.now }
     {
-        let mut ends = [0; PARTS];
-        ends[0] = s.len();
-        let fields = [false; PARTS];
+        let none = Part {
+            end: 0,
+            fields: false,
+        };
+        let mut parts = [none; PARTS];
+        parts[0].end = s.len();
         Walk {
-            ends,
-            fields,
+            parts,
             depth: 0,
             at: 0,
             deep: false,
@@ -368,36 +167,176 @@ impl Walk {
     pub fn next(self, s: &[u8], limit: usize, deepest: usize) -> Walked
         ensures { walked_read result ≡ next_of limit deepest s.now self }
     {
-        if limits_out(limit, deepest) {
+        let Some(limits) = Limits::new(limit, deepest) else {
             return Walked {
                 depth: 0,
-                item: Item::Refused(Refusal {
-                    number: LIMIT_OUT_OF_RANGE,
+                item: Err(Refusal {
+                    reason: Reason::LimitOutOfRange,
                     position: 0,
                 }),
                 next: self,
             };
+        };
+        let Seen { depth, item } = self.look(s, limits);
+        let mut next = self;
+        if let Ok(item) = item {
+            let place = next.pass_item(depth, item, limits);
+            next.go_to(place);
         }
-        let mut ends = self.ends;
-        let mut fields = self.fields;
-        let place = Place {
+        Walked { depth, item, next }
+    }
+
+    // The answer at the walk's place.
+    #[tactic(auto, using(crate::proofs::Depths::depth_room))]
+    fn look(&self, s: &[u8], limits: Limits) -> Seen
+        ensures { seen_read result ≡ visit_of limits.bytes limits.depth s.now self.now }
+    {
+        if limits.depth < self.depth {
+            return refused(0, Reason::Outside, 0);
+        }
+        if self.deep {
+            if outside(s, self.at, self.parts[self.depth].end) {
+                return refused(0, Reason::Outside, 0);
+            }
+            return refused(self.depth, Reason::TooDeep, self.at);
+        }
+        self.find(s, limits.bytes)
+    }
+
+    // The next answer from the walk's place on, in the parts above where its part ends.
+    fn find(&self, s: &[u8], limit: usize) -> Seen
+        requires { self.now.depth ≤ most_depth }
+        ensures { seen_read result ≡ seek limit s.now self.now self.now.depth self.now.at }
+    {
+        let mut depth = self.depth;
+        let mut at = self.at;
+        while depth > 0 {
+            let part = self.parts[depth];
+            let step = item_at(rules_at(depth, part.fields), s, at, part.end, limit);
+            let Ok(item) = step else {
+                return Seen { depth, item: step };
+            };
+            let Item::End { position } = item else {
+                return Seen { depth, item: step };
+            };
+            depth -= 1;
+            at = position;
+        }
+        let item = item_at(Rules::Stream, s, at, self.parts[0].end, limit);
+        Seen { depth, item }
+    }
+
+    // The place behind a value that was handed out at this depth: in its body, if it is a container.
+    #[tactic(auto, using(crate::proofs::Depths::depth_room), unfolding(crate::specs::Calls::state_after_value))]
+    fn pass_value(&mut self, depth: usize, value: EncodedValue, limits: Limits) -> Place
+        requires { depth ≤ limits.depth }
+        ensures { state_at self.new result ≡ state_after_value limits.depth self.old depth (spans_of value) }
+    {
+        if !is_container(value) {
+            return Place::new(depth, value.end);
+        }
+        if depth == limits.depth {
+            return Place {
+                depth,
+                at: value.descriptor,
+                deep: true,
+            };
+        }
+        let inner = depth + 1;
+        self.parts[inner] = Part {
+            end: value.end,
+            fields: value.byte / 16 == 13,
+        };
+        Place::new(inner, value.body)
+    }
+
+    // The place behind an item.
+    fn pass_item(&mut self, depth: usize, item: Item, limits: Limits) -> Place
+        requires { depth ≤ limits.depth }
+        ensures { state_at self.new result ≡ state_after_visit limits.depth self.old (visit depth (gives (places_of item))) }
+    {
+        match item {
+            Item::End { position } => Place::new(depth, position),
+            Item::Marker { end, .. } => Place::new(depth, end),
+            Item::Value(value) | Item::Field { value, .. } => self.pass_value(depth, value, limits),
+        }
+    }
+
+    // Its place.
+    fn place(&self) -> Place
+        ensures { state_at self.now result ≡ self.now }
+    {
+        Place {
             depth: self.depth,
             at: self.at,
             deep: self.deep,
-        };
-        let seen = look(s, &ends, &fields, place, limit, deepest);
-        let item = seen.item;
-        let left = pass_item(&mut ends, &mut fields, place, seen.depth, item, deepest);
-        Walked {
-            depth: seen.depth,
-            item,
-            next: Walk {
-                ends,
-                fields,
-                depth: left.depth,
-                at: left.at,
-                deep: left.deep,
-            },
         }
+    }
+
+    fn go_to(&mut self, place: Place)
+        ensures { self.new ≡ state_at self.old place }
+    {
+        self.depth = place.depth;
+        self.at = place.at;
+        self.deep = place.deep;
+    }
+
+    // How many items at most `most` calls hand out from the walk's place on.
+    #[tactic(auto, using(crate::proofs::Depths::depth_room))]
+    fn count(&mut self, s: &[u8], most: u64, limits: Limits) -> u64
+        ensures { result ≡ items_in (calls limits.bytes limits.depth most s.now self.old) }
+    {
+        let mut place = self.place();
+        let mut count = 0;
+        // No `for` over a range: where a body ends, a turn hands out nothing and is not counted.
+        while count < most {
+            let depth = place.depth;
+            if limits.depth < depth {
+                return count;
+            }
+            if place.deep {
+                return count;
+            }
+            let at = place.at;
+            let part = self.parts[depth];
+            let end = part.end;
+            if outside(s, at, end) {
+                return count;
+            }
+            if at == end {
+                if depth == 0 {
+                    return count;
+                }
+                place = Place::new(depth - 1, end);
+                continue;
+            }
+            let rules = rules_at(depth, part.fields);
+            let Ok(name) = read_name(rules, s, at, end) else {
+                return count;
+            };
+            match short_value(s, name.next, end) {
+                Some(length) => {
+                    let past = length.body + length.size;
+                    let value = bare_value(s[name.next], name.next, length.body, past);
+                    place = self.pass_value(depth, value, limits);
+                }
+                None => {
+                    let Ok(item) = item_from(rules, s, at, name.id, name.next, end, limits.bytes)
+                    else {
+                        return count;
+                    };
+                    match item {
+                        Item::End { .. } if depth > 0 => {
+                            place = Place::new(depth - 1, end);
+                            continue;
+                        }
+                        Item::End { .. } => return count,
+                        _ => place = self.pass_item(depth, item, limits),
+                    }
+                }
+            }
+            count += 1;
+        }
+        count
     }
 }

@@ -2,14 +2,14 @@
 -- Assumes nothing.
 use Prim.Native.Nat.{ℕ, ◌+◌, ◌^◌, ◌≤◌, ◌<◌}
 use native.Mathlib.Omega.{arith}
-use borrow.Author.Tests.{ltb-true, ltb-false, lt-ltb, le-ltb}
+use borrow.Author.Tests.{ltb-true, ltb-false, lt-ltb, le-ltb, eqb-true, eqb-false}
 use mathlib.Core.Path.{◌≡◌, ◌∙◌, sym, ap}
-use mathlib.Core.Bool.{true, false}
+use mathlib.Core.Bool.{Bool, true, false}
 use mathlib.Core.List.{List, ◌++◌}
 use lib.ListN.{length, drop}
 use lib.Seq.{sets, sets-eq}
-use lib.Dec.{ltb}
-use Rattle.numbers.specs.Outcome.{Outcome, gives, refuses}
+use lib.Dec.{ltb, eqb}
+use Rattle.numbers.specs.Outcome.{gives, refuses}
 use Rattle.numbers.proofs.Outcomes.{by_case}
 use Rattle.checking.specs.Reading.{done}
 use Rattle.encoding.specs.Fields.{var_uint_size, var_uint_bytes}
@@ -17,7 +17,7 @@ use Rattle.encoding.specs.Heads.{head_bytes, head_size, typed_bytes, wrapped_byt
 use Rattle.encoding.proofs.VarUInts.{var-uint-sized, var_uint_past, bytes_size}
 use Rattle.encoding.proofs.Heads.{head_length, typed_length}
 use Rattle.encoding.proofs.Stores.{sets_more}
-use Rattle.writing.specs.Answers.{past_nine, fitted, buffer_after}
+use Rattle.writing.specs.Answers.{past_nine, fitted}
 
 pub not_past : (n : ℕ) → past_nine n ≡ false → n < 2 ^ 63
 unfolding past_nine
@@ -33,16 +33,19 @@ pub told : (n : ℕ) → n < 2 ^ 63 → past_nine n ≡ false
 unfolding past_nine
 told n h = le-ltb 9 (var_uint_size n) (var-uint-sized n h).few
 
+-- whether a list is empty
+pub empty : (l : List ℕ) {b : Bool} → b ≡ eqb (length l) 0 → b ≡ true → length l ≡ 0
+empty l e h = eqb-true (length l) 0 (sym e ∙ h)
+
+pub nonempty : (l : List ℕ) {b : Bool} → b ≡ eqb (length l) 0 → b ≡ false → length l ≡ 0 → ⊥
+nonempty l e h = eqb-false (length l) 0 (sym e ∙ h)
+
 -- 70 last
 pub too_short : (room size size' : ℕ) → size ≡ size' → room < size → refuses 70 size ≡ fitted room size' done
 too_short room size size' e h = rw (← e, lt-ltb room size h)
 
 pub fits : (room size size' : ℕ) → size ≡ size' → size ≤ room → gives size ≡ fitted room size' done
 fits room size size' e h = rw (← e, le-ltb room size h)
-
--- a refusal leaves the buffer
-pub kept : (bytes old : List ℕ) {o : Outcome ℕ} {number position : ℕ} → o ≡ refuses number position → old ≡ buffer_after bytes old o
-kept bytes old e = ap (buffer_after bytes old) (sym e)
 
 -- what is stored at the start
 pub stored : (bytes old : List ℕ) (n : ℕ) → n ≡ length bytes → n ≤ length old → sets old 0 bytes ≡ bytes ++ drop n old

@@ -7,9 +7,13 @@ use native.Mathlib.Numerals.{add-one}
 use borrow.Author.Tests.{ltb-true, ltb-false, lt-ltb, le-ltb, eqb-false, eq-eqb, ne_eqb}
 use mathlib.Core.Path.{◌≡◌, refl, ◌∙◌, sym, ap}
 use mathlib.Core.Bool.{Bool, true, false, true≢false}
-use mathlib.Core.List.{List, ◌∷◌, ◌++◌}
-use lib.ListN.{length, replicate, length-append, length-replicate, set}
-use lib.Seq.{sets}
+use mathlib.Core.List.{List, [], ◌∷◌, ◌++◌}
+use mathlib.Core.List.{append_assoc}
+use lib.ListN.{length, get_or, take, drop, replicate, length-append, length-replicate}
+use lib.Seq.{sets, sets-eq, length-sets}
+use borrow.Rule.Slice.PartMut.{put_mid}
+use Rattle.std.proofs.lemmas.Grind.{same_number_lists}
+use Rattle.std.proofs.lemmas.List.{get_or-replicate, drop-drop}
 use lib.Dec.{ltb, eqb}
 use Rattle.numbers.proofs.Outcomes.{by_test, by_case}
 use Rattle.encoding.specs.Fields.{var_uint_in, fewest, var_uint_size}
@@ -78,6 +82,12 @@ pub pad_told : (size : ℕ) → 0 < size → pad_field size ≤ 9 → no_pad siz
 unfolding no_pad
 pad_told size h l = rw (ne_eqb size 0 (omega arith), le-ltb 9 (pad_field size) l)
 
+-- what goes before a pad's body fits into it
+pub field_small : (size : ℕ) → no_pad size ≡ false → 1 + pad_field size ≤ size
+field_small size h =
+    by_case (ltb size 15) (λ e. omega (arith, field_none size (ltb-true size 15 e), pad_some size h))
+    (λ e. omega (arith, pad_few size h, ltb-false size 15 e))
+
 -- ---- its bytes
 
 pub pad_short : (size : ℕ) → size < 15 → pad_bytes size ≡ (size - 1) ∷ replicate (size - 1) 0
@@ -105,20 +115,39 @@ pad_length size h =
 
 -- ---- stores
 
-pub zeros_on : (l : List ℕ) (i end : ℕ) → i < end → sets (set l i 0) (i + 1) (replicate (end - (i + 1)) 0) ≡ sets l i (replicate (end - i) 0)
-zeros_on l i end h = let e : end - i ≡ suc (end - (i + 1)) = omega arith in rw (e, add-one i)
+pub head_short : (size : ℕ) → size < 15 → pad_head size ≡ (size - 1) ∷ []
+unfolding pad_head
+head_short size h = rw (lt-ltb size 15 h)
 
-pub zeros_end : (l : List ℕ) (i end : ℕ) → end ≤ i → l ≡ sets l i (replicate (end - i) 0)
-zeros_end l i end h = let e : end - i ≡ 0 = omega arith in rw e
+pub head_long : (size : ℕ) → 15 ≤ size → pad_head size ≡ 14 ∷ var_uint_in (pad_field size - 1) (length_by size (pad_field size))
+unfolding pad_head
+head_long size h = rw (le-ltb size 15 h)
 
-pub short_stored : (old : List ℕ) (size b : ℕ) → size < 15 → b ≡ size - 1 → sets (set old 0 b) 1 (replicate (size - 1) 0) ≡ sets old 0 (pad_bytes size)
-short_stored old size b h e = rw (pad_short size h, e)
+head_length : (size : ℕ) → length (pad_head size) ≡ 1 + pad_field size
+head_length size =
+    by_case (ltb size 15)
+    (λ e. let l : size < 15 = ltb-true size 15 e in ap length (head_short size l) ∙ ap (λ (k : ℕ). 1 + k) (sym (field_none size l)))
+    (λ e. let l : 15 ≤ size = ltb-false size 15 e in omega (arith, ap length (head_long size l), field_length size (length_by size (pad_field size)) l))
 
-pub long_stored : (old : List ℕ) (size field : ℕ) → 15 ≤ size → field ≡ pad_field size → sets (sets (set old 0 14) 1 (var_uint_in (field - 1) (size - 1 - field))) (1 + field) (replicate (size - (1 + field)) 0) ≡ sets old 0 (pad_bytes size)
-long_stored old size field h e =
-    let v : List ℕ = var_uint_in (pad_field size - 1) (length_by size (pad_field size)) in
-    let r : List ℕ = replicate (length_by size (pad_field size)) 0 in
-    let m : size - (1 + pad_field size) ≡ size - 1 - pad_field size = omega arith in
-    let k : 1 + length v ≡ 1 + pad_field size = ap (λ (x : ℕ). 1 + x) (field_length size (length_by size (pad_field size)) h) in
-    rw (pad_long size h, e, m)
-    (sym (sets_more (set old 0 14) 1 v r ∙ ap (λ (x : ℕ). sets (sets (set old 0 14) 1 v) x r) k))
+-- a list of zeros, by its elements
+zeros : (xs : List ℕ) (n : ℕ) → length xs ≡ n → ((k : ℕ) → k < n → get_or xs k 0 ≡ 0) → xs ≡ replicate n 0
+zeros xs n l h = same_number_lists xs (replicate n 0) (l ∙ sym (length-replicate n 0)) (λ k b. h k (omega arith) ∙ sym (get_or-replicate n k 0 0 (omega arith)))
+
+-- what is written over n elements from a on
+put_mid_is : (xs ys : List ℕ) (a n : ℕ) → length ys ≡ n → put_mid a n xs ys ≡ take a xs ++ ys ++ drop (a + length ys) xs
+put_mid_is xs ys a n l = ap (λ (x : List ℕ). take a xs ++ (ys ++ x)) (drop-drop n a xs ∙ ap (λ (j : ℕ). drop (a + j) xs) (sym l)) ∙ sym (append_assoc (take a xs) ys (drop (a + length ys) xs))
+
+pub pad_stored : (old filled : List ℕ) (size field : ℕ) → no_pad size ≡ false → field ≡ pad_field size → size ≤ length old → length filled ≡ size - (1 + field) → ((k : ℕ) → k < size - (1 + field) → get_or filled k 0 ≡ 0) → put_mid (1 + field) (size - (1 + field)) (sets old 0 (pad_head size)) filled ≡ sets old 0 (pad_bytes size)
+unfolding pad_bytes
+pad_stored old filled size field t e room l h =
+    let n : ℕ = size - (1 + field) in
+    let head : List ℕ = sets old 0 (pad_head size) in
+    let m : size - 1 - pad_field size ≡ n = omega arith in
+    let k : 0 + length (pad_head size) ≡ 1 + field = omega (arith, head_length size) in
+    let q : length head ≡ length old = length-sets old 0 (pad_head size) in
+    let z : filled ≡ replicate n 0 = zeros filled n l h in
+    let small : 1 + pad_field size ≤ size = field_small size t in
+    put_mid_is head filled (1 + field) n l
+    ∙ sym (sets-eq filled head (1 + field) (omega arith))
+    ∙ ap (sets head (1 + field)) z
+    ∙ sym (sets_more old 0 (pad_head size) (replicate (size - 1 - pad_field size) 0) ∙ ap (λ (j : ℕ). sets head j (replicate (size - 1 - pad_field size) 0)) k ∙ ap (λ (j : ℕ). sets head (1 + field) (replicate j 0)) m)

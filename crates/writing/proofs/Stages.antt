@@ -1,15 +1,21 @@
 -- What writing answers, one test at a time.
 -- Assumes nothing.
-use Prim.Native.Nat.{ℕ, zero, suc, ◌-◌, ◌≤◌, ◌<◌}
+use Prim.Native.Nat.{ℕ, zero, suc, ◌-◌, ◌/◌, ◌≤◌, ◌<◌}
 use native.Mathlib.Omega.{arith}
 use borrow.Author.Tests.{lt-ltb, le-ltb, eq-eqb, ne_eqb}
-use mathlib.Core.Path.{◌≡◌, refl, ◌∙◌, sym}
+use mathlib.Core.Path.{◌≡◌, refl, ◌∙◌, sym, ap}
 use mathlib.Core.Bool.{true, false}
 use mathlib.Core.List.{List, [], ◌∷◌}
 use lib.ListN.{length, get_or, take, drop, length-drop}
 use lib.Seq.{take_all}
 use lib.Dec.{eqb}
-use Rattle.numbers.specs.Outcome.{Outcome, gives, refuses, pick, refuse_if, and_then}
+use Rattle.std.specs.Int.{w64, to_be_bytes}
+use Rattle.numbers.specs.Outcome.{Outcome, gives, refuses, refuse_if, and_then}
+use Rattle.numbers.proofs.Outcomes.{by_test}
+use Rattle.std.specs.Prelude.{Option, Some, None}
+use Rattle.numbers.specs.Refusals.{number_of}
+use Rattle.numbers.specs.declared.refusal.Reason.{Reason}
+use Rattle.numbers.specs.declared.refusal.Reason.TheVariants.{WrapperInWrapper}
 use Rattle.numbers.specs.Descriptor.{descriptor_of}
 use Rattle.numbers.specs.declared.type_descriptor.Kind.{Kind}
 use Rattle.numbers.specs.declared.type_descriptor.Kind.TheVariants.{Value, Null, Pad, Marker, Wrapper, Reserved}
@@ -24,6 +30,7 @@ use Rattle.stepping.specs.declared.cursor.Rules.{Rules}
 use Rattle.walking.specs.Walk.{limits_out}
 use Rattle.checking.specs.Reading.{done, read_ids}
 use Rattle.checking.specs.Body.{body_check, limited_body}
+use Rattle.encoding.specs.Fields.{big_endian}
 use Rattle.writing.specs.Things.{Thing, significant, written}
 use Rattle.writing.specs.Answers.{outside, too_long, judged, fitted, write_of, limited_write, lent_value, then_value, judged_parts, judged_wrapper}
 use Rattle.writing.specs.Private.Inner.{inner_fault}
@@ -84,9 +91,24 @@ module _ (m : List ℕ) (r : ℕ) (e : r ≡ significant_from m 0 (length m)) wh
       take_all (length m - r) (drop r m) (omega (arith, length-drop r m))
       ∙ from_first m r significant_high (λ i l. begins.zeros i (omega arith) (omega arith)) (λ l. rw e (begins.here (omega arith)))
 
+pub significant_short : (m : List ℕ) → length (significant m) ≤ length m
+unfolding significant
+significant_short [] = omega arith
+significant_short (b ∷ bs) = by_test (λ (l : List ℕ). length l ≤ length (b ∷ bs)) (eqb b 0) (λ _. omega (arith, significant_short bs)) (λ _. omega arith)
+
+-- eight bytes, as the library has them
+pub eight_bytes : (n : ℕ) → to_be_bytes w64 n ≡ big_endian 8 n
+unfolding big_endian
+eight_bytes n = let one : n / 1 ≡ n = omega arith in rw one
+
 -- ---- a wrapper's value by itself
 
-faulted : {A : Type 0} (k : Kind) (o : Outcome A) → refuse_if (is_wrapper k) 27 0 (refuse_if (is_pad k) 28 0 o) ≡ pick (eqb (inner_fault k) 0) o (refuses (inner_fault k) 0)
+-- a refusal for this reason, if there is one, before anything else
+abbrev fault_first : {A : Type 0} → Option Reason → Outcome A → Outcome A
+fault_first None o = o
+fault_first (Some r) o = refuses (number_of r) 0
+
+faulted : {A : Type 0} (k : Kind) (o : Outcome A) → refuse_if (is_wrapper k) 27 0 (refuse_if (is_pad k) 28 0 o) ≡ fault_first (inner_fault k) o
 faulted Value o = refl
 faulted Null o = refl
 faulted Pad o = refl
@@ -94,26 +116,26 @@ faulted Marker o = refl
 faulted Wrapper o = refl
 faulted Reserved o = refl
 
-no_wrapper : (k : Kind) → inner_fault k ≡ 0 → is_wrapper k ≡ false
+no_wrapper : (k : Kind) → None ≡ inner_fault k → is_wrapper k ≡ false
 no_wrapper Value h = refl
 no_wrapper Null h = refl
 no_wrapper Pad h = refl
 no_wrapper Marker h = refl
-no_wrapper Wrapper h = absurd (omega arith)
+no_wrapper Wrapper h = absurd (let z : ◌≡◌ {A = Option Reason} None (Some WrapperInWrapper) = h in cc)
 no_wrapper Reserved h = refl
 
 module _ (value : List ℕ) (some : 0 < length value) where
-  lent_is : lent_value value ≡ pick (eqb (inner_fault (descriptor_of (get_or value 0 0)).kind) 0) (value_without_annotations value 0 (length value) (here value 0)) (refuses (inner_fault (descriptor_of (get_or value 0 0)).kind) 0)
+  lent_is : lent_value value ≡ fault_first (inner_fault (descriptor_of (get_or value 0 0)).kind) (value_without_annotations value 0 (length value) (here value 0))
   unfolding lent_value inner_value
   lent_is = rw (peeked_here value 0 (length value) some (omega arith)) (faulted (here value 0).kind (value_without_annotations value 0 (length value) (here value 0)))
 
-  pub lent_fault : (fault : ℕ) → fault ≡ inner_fault (descriptor_of (get_or value 0 0)).kind → (fault ≡ 0 → ⊥) → refuses fault 0 ≡ lent_value value
-  lent_fault fault e h = rw (e, lent_is, ne_eqb (inner_fault (descriptor_of (get_or value 0 0)).kind) 0 (λ q. h (e ∙ q)))
+  pub lent_fault : (r : Reason) → Some r ≡ inner_fault (descriptor_of (get_or value 0 0)).kind → refuses (number_of r) 0 ≡ lent_value value
+  lent_fault r e = ap (λ (x : Option Reason). fault_first x (value_without_annotations value 0 (length value) (here value 0))) e ∙ sym lent_is
 
-  pub lent-value : (limit fault : ℕ) → out_of_range limit ≡ false → fault ≡ inner_fault (descriptor_of (get_or value 0 0)).kind → fault ≡ 0 → limited limit (read_value limit value 0 (length value)) ≡ lent_value value
+  pub lent-value : (limit : ℕ) → out_of_range limit ≡ false → None ≡ inner_fault (descriptor_of (get_or value 0 0)).kind → limited limit (read_value limit value 0 (length value)) ≡ lent_value value
   unfolding read_value value_at
-  lent-value limit fault g e h =
-      rw (g, lent_is, eq-eqb (inner_fault (descriptor_of (get_or value 0 0)).kind) 0 (sym e ∙ h), peeked_here value 0 (length value) some (omega arith), no_wrapper (here value 0).kind (sym e ∙ h))
+  lent-value limit g e =
+      rw (g, lent_is, ← e, peeked_here value 0 (length value) some (omega arith), no_wrapper (here value 0).kind e)
 
 -- ---- a wrapper's parts
 

@@ -1,2 +1,3 @@
 -- Definitions that only private functions' contracts cite: a reader of the crate needs none of them.
 pub mod Inner
+pub mod Fields

@@ -1,11 +1,9 @@
--- What each case of an enum of this layer says in the papers' terms.
+-- What the answer to writing says in the papers' terms: how many bytes were written, or why nothing was.
 -- Assumes nothing.
-use Rattle.std.specs.Prelude.{ℕ}
-use Rattle.numbers.specs.Outcome.{Outcome, gives}
-use Rattle.numbers.specs.Read.{refusal_read}
-use Rattle.writing.specs.declared.written.Written.{Written}
-use Rattle.writing.specs.declared.written.Written.TheVariants.{Length, Refused}
+use Rattle.std.specs.Prelude.{ℕ, Result}
+use Rattle.numbers.specs.Outcome.{Outcome}
+use Rattle.numbers.specs.Read.{outcome}
+use Rattle.numbers.specs.declared.refusal.Refusal.{Refusal}
 
-abbrev pub written_read : Written → Outcome ℕ
-written_read (Length n) = gives n
-written_read (Refused e) = refusal_read e
+abbrev pub written_read : Result ℕ Refusal → Outcome ℕ
+written_read = outcome (λ n. n)

@@ -4,22 +4,21 @@ ghost use Rattle.writing.specs.Things.{container, written};
 ghost use Rattle.writing.specs.Answers.{is_container, rules_of, limited_write, buffer_after};
 ghost use Rattle.writing.specs.Read.{written_read};
 
-use crate::written::{Written, narrow, past_nine, put_typed, refused};
+use crate::written::{past_nine, put_typed, refused};
 use checking::check::check_body;
-use checking::item::Verdict;
-use numbers::refusal::{LIMIT_OUT_OF_RANGE, NO_SUCH_LENGTH, OUTSIDE};
+use numbers::refusal::{Reason, Refusal};
 use stepping::cursor::Rules;
 use walking::walk::limits_out;
 
+// The type code of a struct. A type code is the document's own number, as callers in C have it.
 const STRUCT: usize = 13;
 
+// Whether a type is a container's: a list's, a sexp's or a struct's.
+#[tactic(auto, unfolding(crate::specs::Answers::is_container))]
 fn is_container(type_code: usize) -> bool
     ensures { result ≡ is_container type_code }
 {
-    if type_code < 11 {
-        return false;
-    }
-    type_code < 14
+    matches!(type_code, 11..=13)
 }
 
 // The rules of a container's body.
@@ -40,21 +39,19 @@ pub fn write_container(
     limit: usize,
     deepest: usize,
     to: &mut [u8],
-) -> Written
+) -> Result<usize, Refusal>
     ensures answers { written_read result ≡ limited_write limit deepest (container type_code body.now) (length to.old) }
     ensures puts { to.new ≡ buffer_after (written (container type_code body.now)) to.old (written_read result) }
 {
     if limits_out(limit, deepest) {
-        return refused(LIMIT_OUT_OF_RANGE, 0);
+        return refused(Reason::LimitOutOfRange, 0);
     }
     if !is_container(type_code) {
-        return refused(OUTSIDE, 0);
+        return refused(Reason::Outside, 0);
     }
     if past_nine(body.len()) {
-        return refused(NO_SUCH_LENGTH, 0);
+        return refused(Reason::NoSuchLength, 0);
     }
-    match check_body(body, rules_of(type_code), deepest - 1, limit) {
-        Verdict::Accepted => put_typed(to, narrow(type_code), body),
-        Verdict::Refused(refusal) => Written::Refused(refusal),
-    }
+    check_body(body, rules_of(type_code), deepest - 1, limit)?;
+    put_typed(to, type_code as u8, body)
 }

@@ -1,6 +1,5 @@
 // Writes a wrapper of annotations around a value that is already written.
 ghost use Rattle.std.specs.Prelude.{◌≡◌, false, ◌+◌, ◌<◌, length};
-ghost use Rattle.numbers.specs.Outcome.{refuses};
 ghost use Rattle.framing.specs.Spans.{Spans};
 ghost use Rattle.framing.specs.Limits.{out_of_range};
 ghost use Rattle.framing.specs.Read.{framed_read};
@@ -13,16 +12,13 @@ ghost use Rattle.writing.specs.Answers.{past_nine, lent_value, judged_parts, jud
 ghost use Rattle.writing.specs.Read.{written_read};
 ghost use Rattle.writing.specs.Private.Inner.{inner_fault};
 
-use crate::written::{Written, past_nine, refused};
+use crate::written::{past_nine, refused};
 use checking::check::check_body;
-use checking::item::{Verdict, read_ids};
+use checking::item::read_ids;
 use encoding::put::{head_size, put_bytes, put_head, put_var_uint, var_uint_size};
 use framing::binary_buffer::read_value;
-use framing::encoded_value::Framed;
-use numbers::refusal::{
-    LIMIT_OUT_OF_RANGE, NO_ANNOTATIONS, NO_ROOM_FOR_VALUE, NO_ROOM_TO_WRITE, NO_SUCH_LENGTH,
-    PAD_IN_WRAPPER, Refusal, TOO_MANY_ANNOTATIONS, WRAPPED_LENGTH_DIFFERS, WRAPPER_IN_WRAPPER,
-};
+use framing::encoded_value::EncodedValue;
+use numbers::refusal::{Reason, Refusal};
 use numbers::type_descriptor::{Kind, TypeDescriptor};
 use stepping::cursor::Rules;
 use walking::walk::limits_out;
@@ -37,59 +33,34 @@ const LARGEST: usize = 9223372036854775807;
 fn wrapped_past_nine(m: usize, n: usize) -> bool
     ensures { result ≡ past_nine (var_uint_size m + (m + n)) }
 {
-    if LARGEST < m {
+    let size = m.saturating_add(n);
+    if LARGEST < size {
         return true;
     }
-    if LARGEST - m < n {
-        return true;
-    }
-    past_nine(var_uint_size(m) + (m + n))
+    past_nine(var_uint_size(m) + size)
 }
 
-fn no_value(number: u64) -> Framed
-    ensures { framed_read result ≡ refuses number 0 }
-{
-    Framed::Refused(Refusal {
-        number,
-        position: 0,
-    })
-}
-
-// Why a descriptor of this kind begins no value of a wrapper: 27 another wrapper, 28 a pad, and 0 for every other.
-fn inner_fault(kind: Kind) -> u64
+// Why a descriptor of this kind begins no value of a wrapper, if it begins none.
+fn inner_fault(kind: Kind) -> Option<Reason>
     ensures { result ≡ inner_fault kind }
 {
     match kind {
-        Kind::Value => 0,
-        Kind::Null => 0,
-        Kind::Pad => PAD_IN_WRAPPER,
-        Kind::Marker => 0,
-        Kind::Wrapper => WRAPPER_IN_WRAPPER,
-        Kind::Reserved => 0,
+        Kind::Wrapper => Some(Reason::WrapperInWrapper),
+        Kind::Pad => Some(Reason::PadInWrapper),
+        Kind::Value | Kind::Null | Kind::Marker | Kind::Reserved => None,
     }
 }
 
 // The wrapper's value where it stands by itself.
-fn lent_value(value: &[u8], limit: usize) -> Framed
+fn lent_value(value: &[u8], limit: usize) -> Result<EncodedValue, Refusal>
     requires { (0 < length value.now) × (out_of_range limit ≡ false) }
     ensures { framed_read result ≡ lent_value value.now }
 {
-    let descriptor = TypeDescriptor::compared(value[0]);
-    let kind = descriptor.kind;
-    let fault = inner_fault(kind);
-    if fault != 0 {
-        return no_value(fault);
+    let descriptor = TypeDescriptor::from_byte(value[0]);
+    if let Some(reason) = inner_fault(descriptor.kind) {
+        return refused(reason, 0);
     }
     read_value(value, 0, value.len(), limit)
-}
-
-fn not_judged(number: u64) -> Verdict
-    ensures { done_read result ≡ refuses number 0 }
-{
-    Verdict::Refused(Refusal {
-        number,
-        position: 0,
-    })
 }
 
 // Reads the annotations, and then the value, whose places are known, as the reader would.
@@ -99,41 +70,42 @@ fn judge_parts(
     end: usize,
     limit: usize,
     deepest: usize,
-) -> Verdict
+) -> Result<(), Refusal>
     requires { out_of_range limit ≡ false }
     ensures { (v : Spans) → v.end ≡ end → done_read result ≡ judged_parts limit deepest annotations.now value.now v }
 {
     if end != value.len() {
-        return not_judged(WRAPPED_LENGTH_DIFFERS);
+        return refused(Reason::WrappedLengthDiffers, 0);
     }
-    match read_ids(annotations, 0, annotations.len()) {
-        Verdict::Accepted => check_body(value, Rules::Sequence, deepest, limit),
-        Verdict::Refused(refusal) => Verdict::Refused(refusal),
-    }
+    read_ids(annotations, 0, annotations.len())?;
+    check_body(value, Rules::Sequence, deepest, limit)
 }
 
 // Reads a wrapper's parts as the reader would.
-fn judge_wrapper(annotations: &[u8], value: &[u8], limit: usize, deepest: usize) -> Verdict
+fn judge_wrapper(
+    annotations: &[u8],
+    value: &[u8],
+    limit: usize,
+    deepest: usize,
+) -> Result<(), Refusal>
     requires { out_of_range limit ≡ false }
     ensures { done_read result ≡ judged_wrapper limit deepest annotations.now value.now }
 {
-    if annotations.len() == 0 {
-        return not_judged(NO_ANNOTATIONS);
+    if annotations.is_empty() {
+        return refused(Reason::NoAnnotations, 0);
     }
-    if value.len() == 0 {
-        return not_judged(NO_ROOM_FOR_VALUE);
+    if value.is_empty() {
+        return refused(Reason::NoRoomForValue, 0);
     }
     if limit < annotations.len() {
-        return not_judged(TOO_MANY_ANNOTATIONS);
+        return refused(Reason::TooManyAnnotations, 0);
     }
-    match lent_value(value, limit) {
-        Framed::Value(inner) => judge_parts(annotations, value, inner.end, limit, deepest),
-        Framed::Refused(refusal) => Verdict::Refused(refusal),
-    }
+    let inner = lent_value(value, limit)?;
+    judge_parts(annotations, value, inner.end, limit, deepest)
 }
 
 // Puts a wrapper at the buffer's start, if it fits.
-fn put_wrapper(to: &mut [u8], annotations: &[u8], value: &[u8]) -> Written
+fn put_wrapper(to: &mut [u8], annotations: &[u8], value: &[u8]) -> Result<usize, Refusal>
     requires { past_nine (length (wrapped_bytes annotations.now value.now)) ≡ false }
     ensures answers { written_read result ≡ fitted (length to.old) (length (wrapper_bytes annotations.now value.now)) done }
     ensures puts { to.new ≡ buffer_after (wrapper_bytes annotations.now value.now) to.old (written_read result) }
@@ -144,13 +116,13 @@ fn put_wrapper(to: &mut [u8], annotations: &[u8], value: &[u8]) -> Written
     let head = head_size(n);
     let size = head + n;
     if to.len() < size {
-        return refused(NO_ROOM_TO_WRITE, size);
+        return refused(Reason::NoRoomToWrite, size);
     }
     put_head(to, 0, WRAPPER, n);
     put_var_uint(to, head, m);
     put_bytes(to, head + field, annotations);
     put_bytes(to, head + field + m, value);
-    Written::Length(size)
+    Ok(size)
 }
 
 // Writes a wrapper by its annotations and its value. `limit` is the most bytes that a value's annotations may have, `deepest` the depth at which a container is
@@ -161,18 +133,16 @@ pub fn write_wrapper(
     limit: usize,
     deepest: usize,
     to: &mut [u8],
-) -> Written
+) -> Result<usize, Refusal>
     ensures answers { written_read result ≡ limited_write limit deepest (wrapper annotations.now value.now) (length to.old) }
     ensures puts { to.new ≡ buffer_after (written (wrapper annotations.now value.now)) to.old (written_read result) }
 {
     if limits_out(limit, deepest) {
-        return refused(LIMIT_OUT_OF_RANGE, 0);
+        return refused(Reason::LimitOutOfRange, 0);
     }
     if wrapped_past_nine(annotations.len(), value.len()) {
-        return refused(NO_SUCH_LENGTH, 0);
+        return refused(Reason::NoSuchLength, 0);
     }
-    match judge_wrapper(annotations, value, limit, deepest) {
-        Verdict::Accepted => put_wrapper(to, annotations, value),
-        Verdict::Refused(refusal) => Written::Refused(refusal),
-    }
+    judge_wrapper(annotations, value, limit, deepest)?;
+    put_wrapper(to, annotations, value)
 }

@@ -1,14 +1,14 @@
 -- How the private reading of a value takes it apart, so that a value with a wrapper and one without are read by one piece of code: first where the value
 -- stands, then the value. `Location.value_located` in `proofs/` says that the two make `value_at`; callers of the crate need none of this.
 -- Assumes nothing.
-use Rattle.std.specs.Prelude.{ℕ, ◌+◌, ◌-◌, Bool, false, not, List, get_or, ltb, eqb}
+use Rattle.std.specs.Prelude.{ℕ, ◌+◌, ◌-◌, Bool, false, not, List, get_or, ltb, eqb, Result}
 use Rattle.numbers.specs.Outcome.{Outcome, gives, pick, refuse_if, and_then}
-use Rattle.numbers.specs.Read.{refusal_read}
+use Rattle.numbers.specs.Read.{outcome}
+use Rattle.numbers.specs.declared.refusal.Refusal.{Refusal}
 use Rattle.numbers.specs.declared.type_descriptor.TypeDescriptor.{TypeDescriptor}
 use Rattle.framing.specs.Answers.{peeked_descriptor, is_pad, is_wrapper, no_value, Sized, value_length, Wrapping, wrapper_at}
 use Rattle.framing.specs.Spans.{Spans}
 use Rattle.framing.specs.declared.annotations_wrapper.Located.{Located}
-use Rattle.framing.specs.declared.annotations_wrapper.Located.TheVariants.{Value, Refused}
 
 -- where a value's annotations start, where it stands, how long its wrapper says that it is (0 where it has none), and its descriptor
 pub record Location : Type 0 where
@@ -17,9 +17,12 @@ pub record Location : Type 0 where
   pub expected : ℕ
   pub descriptor : TypeDescriptor
 
-abbrev pub located_read : Located → Outcome Location
-located_read (Value a v n d) = gives (record { annotations = a; value = v; expected = n; descriptor = d })
-located_read (Refused e) = refusal_read e
+abbrev pub location_of : Located → Location
+location_of l =
+    record { annotations = l.annotations; value = l.value.at; expected = l.expected; descriptor = l.value.descriptor }
+
+abbrev pub located_read : Result Located Refusal → Outcome Location
+located_read = outcome location_of
 
 -- "27, 28", and 22 at a byte that begins no value, at the inner byte
 unfoldable pub inner_tests : Wrapping → TypeDescriptor → Outcome Location

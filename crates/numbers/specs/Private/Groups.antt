@@ -6,6 +6,7 @@ use Rattle.numbers.specs.Outcome.{Outcome, gives, refuse_if, outside_of}
 use Rattle.numbers.specs.Bytes.{part}
 use Rattle.numbers.specs.Answers.{Unsigned, last_byte, most_bytes, var_uint}
 use Rattle.numbers.specs.ShortVarUInt.{short, none, short_var_uint_of}
+use Rattle.numbers.specs.Read.{unsigned_read}
 use Rattle.numbers.specs.declared.binary_buffer.FirstBytes.{FirstBytes}
 use Rattle.numbers.specs.declared.binary_buffer.FirstBytes.TheVariants.{All, More, Outside}
 
@@ -31,6 +32,6 @@ pub record GoesOn (s : List ℕ) (at end v next : ℕ) : Type 0 where
 
 -- what its first bytes, three at most, tell
 abbrev pub Begins : List ℕ → ℕ → ℕ → FirstBytes → Type 0
-Begins s at end (All v n) = short_var_uint_of at (var_uint s at end) ≡ short (record { value = v; next = n })
-Begins s at end (More v n) = GoesOn s at end v n
+Begins s at end (All n) = short_var_uint_of at (var_uint s at end) ≡ short (unsigned_read n)
+Begins s at end (More n) = GoesOn s at end n.value n.next
 Begins s at end Outside = outside_of s at end ≡ true

@@ -1,26 +1,14 @@
 -- What the private functions of timestamp.rt answer; callers of the crate need none of this.
 -- Assumes nothing.
-use Rattle.std.specs.Prelude.{ℕ, ◌^◌, ◌≤◌, ◌<◌, ◌≡◌, List, get_or, leb}
-use Rattle.numbers.specs.Outcome.{Outcome, gives, refuses, pick}
-use Rattle.timestamps.specs.Timestamp.{Values, fields_of}
+use Rattle.std.specs.Prelude.{ℕ, ◌^◌, ◌≤◌, ◌<◌, ◌≡◌, true, Option, None, Some, Result, leb}
+use Rattle.numbers.specs.Outcome.{Outcome, gives, pick, and_then, refuse_if}
+use Rattle.numbers.specs.Read.{outcome}
+use Rattle.numbers.specs.declared.refusal.Refusal.{Refusal}
+use Rattle.timestamps.specs.Timestamp.{Fraction, Values, fields_of, too_wide}
+use Rattle.timestamps.specs.TimestampMeaning.{absent_fraction}
 use Rattle.timestamps.specs.declared.timestamp.Fields.{Fields}
 use Rattle.timestamps.specs.declared.timestamp.FieldsRead.{FieldsRead}
-use Rattle.timestamps.specs.declared.timestamp.FieldsRead.TheVariants.{Value as FieldsValue, Refused as FieldsRefused}
-use Rattle.timestamps.specs.declared.timestamp.Magnitude.{Magnitude}
-use Rattle.timestamps.specs.declared.timestamp.Magnitude.TheVariants.{Value, TooLong}
-
--- six values as fields, of which so many were read
-abbrev pub counted : ℕ → List ℕ → Fields
-counted count values =
-    record {
-      count = count;
-      year = get_or values 0 0;
-      month = get_or values 1 0;
-      day = get_or values 2 0;
-      hour = get_or values 3 0;
-      minute = get_or values 4 0;
-      second = get_or values 5 0;
-    }
+use Rattle.timestamps.specs.declared.timestamp.Fraction.{Fraction as Given}
 
 -- six fields at most were read, and a month or a day that was not read is 0
 pub record Filled (f : Fields) : Type 0 where
@@ -28,11 +16,29 @@ pub record Filled (f : Fields) : Type 0 where
   pub month : f.count < 2 → f.month ≡ 0
   pub day : f.count < 3 → f.day ≡ 0
 
--- the answer to a reading of the fields
-abbrev pub fields_answer : Outcome Values → FieldsRead
-fields_answer (gives v) = FieldsValue (fields_of v.values) v.next
-fields_answer (refuses number position) = FieldsRefused (record { number = number; position = position })
+-- a fraction that is there, and none
+abbrev pub fraction_read : Option Given → Fraction
+fraction_read None = absent_fraction
+fraction_read (Some f) =
+    record {
+      present = true;
+      exponent_negative = f.exponent_negative;
+      exponent = f.exponent;
+      negative = f.negative;
+      coefficient = f.coefficient;
+    }
+
+-- the fields of values, and where these end
+abbrev pub fields_given : Outcome Values → Outcome FieldsRead
+fields_given o = and_then o (λ v. gives (record { fields = fields_of v.values; next = v.next }))
+
+abbrev pub fields_read : Result FieldsRead Refusal → Outcome FieldsRead
+fields_read = outcome (λ f. f)
 
 -- a magnitude, if eight bytes hold it
-unfoldable pub magnitude_answer : ℕ → Magnitude
-magnitude_answer m = pick (leb (256 ^ 8) m) TooLong (Value m)
+unfoldable pub magnitude_answer : ℕ → Option ℕ
+magnitude_answer m = pick (leb (256 ^ 8) m) None (Some m)
+
+-- a fraction whose coefficient's magnitude eight bytes hold, and the refusal of another
+abbrev pub measured : ℕ → Fraction → Outcome Fraction
+measured descriptor f = refuse_if (too_wide f) 63 descriptor (gives f)

@@ -1,14 +1,16 @@
 -- Why a byte of a kind begins no value of a wrapper.
 -- Assumes nothing.
-use Rattle.std.specs.Prelude.{ℕ}
+use Rattle.std.specs.Prelude.{Option, Some, None}
+use Rattle.numbers.specs.declared.refusal.Reason.{Reason}
+use Rattle.numbers.specs.declared.refusal.Reason.TheVariants.{WrapperInWrapper, PadInWrapper}
 use Rattle.numbers.specs.declared.type_descriptor.Kind.{Kind}
 use Rattle.numbers.specs.declared.type_descriptor.Kind.TheVariants.{Value, Null, Pad, Marker, Wrapper, Reserved}
 
--- "27, 28", and 0 for neither
-abbrev pub inner_fault : Kind → ℕ
-inner_fault Value = 0
-inner_fault Null = 0
-inner_fault Pad = 28
-inner_fault Marker = 0
-inner_fault Wrapper = 27
-inner_fault Reserved = 0
+-- "27, 28", and neither of every other
+abbrev pub inner_fault : Kind → Option Reason
+inner_fault Value = None
+inner_fault Null = None
+inner_fault Pad = Some PadInWrapper
+inner_fault Marker = None
+inner_fault Wrapper = Some WrapperInWrapper
+inner_fault Reserved = None

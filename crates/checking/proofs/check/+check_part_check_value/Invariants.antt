@@ -14,8 +14,8 @@ decreases-check_value l = l.room + l.room
 abbrev pub invariant-check_part-loop-past : goal.invariant-check_part-loop-past
 invariant-check_part-loop-past l =
     (l.from ≤ l.end)
-    × Below l.from l.counts
-    × (full l.limit l.s l.rules l.room l.end l.from l.counts ≡ full l.limit l.s l.rules l.room l.end l.at l.initial.counts)
+    × Below l.from l.counts.places
+    × (full l.map.limit l.map.s.now l.rules l.room l.end l.from l.counts.places ≡ full l.map.limit l.map.s.now l.rules l.room l.end l.at l.initial.counts.places)
 
 abbrev pub decreases-check_part-loop-past : goal.decreases-check_part-loop-past
 decreases-check_part-loop-past l = l.end - l.from

@@ -1,46 +1,38 @@
 -- `read_ids` meets its contract: reading the IDs from each one on is reading them from the first on.
 use native.Mathlib.Omega.{arith}
-use mathlib.Core.Path.{◌≡◌, refl, ◌∙◌, sym, ap}
-use Rattle.numbers.specs.Outcome.{Outcome, and_then}
+use mathlib.Core.Path.{◌≡◌, ◌∙◌, sym, ap}
+use Rattle.std.specs.Prelude.{Option}
+use Rattle.numbers.specs.Outcome.{Outcome, gives}
 use Rattle.numbers.proofs.Outcomes.{each_of}
-use Rattle.framing.specs.Answers.{Annotated}
-use Rattle.framing.specs.Read.{annotation_read}
+use Rattle.numbers.proofs.Passing.{passed_on}
+use Rattle.framing.specs.Answers.{Annotated, read_annotation}
+use Rattle.framing.specs.Read.{annotated_of}
 use Rattle.framing.specs.declared.annotations_iterator.Annotation.{Annotation}
-use Rattle.checking.specs.Reading.{Done, on_id, read_ids}
-use Rattle.checking.proofs.Ids.{annotation_each, ids_next, ids_none}
+use Rattle.checking.proofs.Ids.{annotation_each, ids_by, ids_none}
 use Rattle.checking.proofs.item.read_ids.Goals as goal
-use Rattle.checking.proofs.item.read_ids.Goals.{After-read_annotation}
+use Rattle.checking.proofs.item.read_ids.Goals.{In_ok-annotation}
 
-pub loop-at-init : goal.loop-at-init
-loop-at-init c = refl
-
--- what the ID that was read makes of the rest
-read : (c : After-read_annotation) {u : Annotation} → c.read_annotation.result ≡ u → let a = c.args in and_then (annotation_read u) (on_id (λ n. read_ids a.s.now n a.end)) ≡ read_ids a.s.now a.start a.end
-read c {u} h =
-    let l = c.loop-at in
-    let a = c.args in
-    let go : Annotation → Outcome Done = λ x. and_then (annotation_read x) (on_id (λ n. read_ids a.s.now n a.end)) in
-    ap go (sym h)
-    ∙ ap (λ (o : Outcome Annotated). and_then o (on_id (λ n. read_ids a.s.now n a.end))) c.read_annotation.ensures
-    ∙ sym (ids_next a.s.now l.at a.end c.loop-at-test.true)
-    ∙ l.invariant
+-- the annotation that was read, or that there is none
+read : (c : In_ok-annotation) {x : Option Annotation} → c.in_ok-annotation.field-0 ≡ x → ◌≡◌ {A = Outcome Annotated} (gives (annotated_of x)) (read_annotation c.args.s.now c.loop-at.at c.args.end)
+read c h = ap (λ (x : Option Annotation). gives (annotated_of x)) (sym h) ∙ c.in_ok-annotation.ensures
 
 pub loop-at-smaller : goal.loop-at-smaller
 loop-at-smaller c =
     let a = c.args in
-    let p = each_of (annotation_each a.s.now c.loop-at.at a.end) (sym c.read_annotation.ensures ∙ ap annotation_read c.in-Id.is) in
+    let p = each_of (annotation_each a.s.now c.loop-at.at a.end) (sym (read (goal.at.loop-at-smaller c).In_ok-annotation c.in-Some.is)) in
     omega (arith, p.0, c.loop-at-test.true)
 
 pub loop-at-preserved : goal.loop-at-preserved
-loop-at-preserved c = read (goal.at.loop-at-preserved c).After-read_annotation c.in-Id.is
+loop-at-preserved c =
+    ids_by c.args.s.now c.loop-at.at c.args.end c.loop-at-test.true (read (goal.at.loop-at-preserved c).In_ok-annotation c.in-Some.is) ∙ c.loop-at.invariant
 
-pub returns-in-End : goal.returns-in-End
-returns-in-End c = read (goal.at.returns-in-End c).After-read_annotation c.in-End.is
+pub returns-in_default : goal.returns-in_default
+returns-in_default c =
+    ids_by c.args.s.now c.loop-at.at c.args.end c.loop-at-test.true (read (goal.at.returns-in_default c).In_ok-annotation c.in_default.is) ∙ c.loop-at.invariant
 
-pub returns-in-Refused : goal.returns-in-Refused
-returns-in-Refused c = read (goal.at.returns-in-Refused c).After-read_annotation c.in-Refused.is
+pub returns-in_err-annotation : goal.returns-in_err-annotation
+returns-in_err-annotation c =
+    passed_on _ c.from_residual.result _ c.from_residual.ensures.1 ∙ ids_by c.args.s.now c.loop-at.at c.args.end c.loop-at-test.true c.in_err-annotation.ensures ∙ c.loop-at.invariant
 
 pub returns : goal.returns
-returns c =
-    let a = c.args in
-    sym (ids_none a.s.now c.loop-at.at a.end c.loop-at-test.false) ∙ c.loop-at.invariant
+returns c = sym (ids_none c.args.s.now c.loop-at.at c.args.end c.loop-at-test.false) ∙ c.loop-at.invariant

@@ -1,8 +1,7 @@
 -- `put_head` meets its contract, by the two cases of a length: in the descriptor's code, or behind it.
 use Prim.Native.Nat.{ℕ, ◌+◌, ◌*◌, ◌/◌}
-use native.Mathlib.Omega.{arith}
 use native.Mathlib.Numerals.{add-one}
-use mathlib.Core.Path.{◌≡◌, ◌∙◌, sym, ap}
+use mathlib.Core.Path.{◌∙◌, sym, ap}
 use mathlib.Core.List.{List}
 use lib.ListN.{set}
 use lib.Seq.{sets}
@@ -15,10 +14,7 @@ use Rattle.encoding.proofs.put.put_head.Goals as goal
 pub returns-then-n-lt-LONG : goal.returns-then-n-lt-LONG
 returns-then-n-lt-LONG c =
     let a = c.args in
-    let v : c.narrow.result ≡ a.byte / 16 * 16 + a.n = omega (arith, c.narrow.ensures, c.wide.ensures) in
-    c.put_byte.ensures
-    ∙ ap (set a.out.now a.at) v
-    ∙ ap (sets a.out.now a.at) (sym (bytes_short (a.byte / 16) a.n c.if-n-lt-LONG.true))
+    c.put_byte.ensures ∙ ap (sets a.out.now a.at) (sym (bytes_short (a.byte / 16) a.n c.if-n-lt-LONG.true))
 
 pub returns-then-out-at : goal.returns-then-out-at
 returns-then-out-at c =
@@ -28,8 +24,7 @@ returns-then-out-at c =
 pub returns : goal.returns
 returns c =
     let a = c.args in
-    let v : c.narrow-2.result ≡ a.byte / 16 * 16 + 14 = omega (arith, c.narrow-2.ensures, c.wide.ensures) in
     c.put_var_uint.ensures
-    ∙ ap (λ (x : List ℕ). sets x (a.at + 1) (var_uint_bytes a.n)) (c.put_byte-2.ensures ∙ ap (set a.out.now a.at) v)
+    ∙ ap (λ (x : List ℕ). sets x (a.at + 1) (var_uint_bytes a.n)) c.put_byte-2.ensures
     ∙ ap (λ (x : ℕ). sets (set a.out.now a.at (a.byte / 16 * 16 + 14)) x (var_uint_bytes a.n)) (add-one a.at)
     ∙ ap (sets a.out.now a.at) (sym (bytes_long (a.byte / 16) a.n c.if-n-lt-LONG.false))

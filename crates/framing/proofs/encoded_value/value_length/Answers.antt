@@ -3,28 +3,12 @@ use Prim.Native.Nat.{◌+◌}
 use mathlib.Core.Path.{◌≡◌, ◌∙◌, sym, ap}
 use mathlib.Core.Bool.{true}
 use Rattle.numbers.specs.Outcome.{gives}
-use Rattle.numbers.proofs.Outcomes.{then_by}
-use Rattle.framing.specs.Answers.{length_at, length_tests, value_length}
-use Rattle.framing.specs.Read.{length_read}
 use Rattle.framing.specs.Private.InlineLengths.{has_inline_length}
 use Rattle.framing.proofs.InlineLengths.{inline_read}
 use Rattle.framing.proofs.encoded_value.value_length.Goals as goal
 
 pub returns-then-has_inline_length : goal.returns-then-has_inline_length
 returns-then-has_inline_length c =
-    let a = c.args in
+    let a = c.args.place in
     let h : has_inline_length a.descriptor.type_code a.descriptor.length_code ≡ true = sym c.has_inline_length.ensures ∙ c.if-has_inline_length.true in
     ap (λ n. gives (record { body = a.at + 1; size = n })) c.inline_length-size.ensures ∙ sym (inline_read a.s.now a.at a.end a.descriptor h)
-
-pub returns-in-Known : goal.returns-in-Known
-unfolding value_length
-returns-in-Known c =
-    let a = c.args in
-    c.check_length.ensures
-    ∙ then_by length_read (length_tests a.at a.descriptor.type_code a.descriptor.length_code) c.in-Known.is (c.read_length.ensures ∙ ap (length_at a.s.now (a.at + 1) a.end) c.value_code-code.ensures)
-
-pub returns-in-Refused : goal.returns-in-Refused
-unfolding value_length
-returns-in-Refused c =
-    let a = c.args in
-    then_by length_read (length_tests a.at a.descriptor.type_code a.descriptor.length_code) c.in-Refused.is (c.read_length.ensures ∙ ap (length_at a.s.now (a.at + 1) a.end) c.value_code-code.ensures)

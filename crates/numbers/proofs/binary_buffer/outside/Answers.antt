@@ -7,6 +7,6 @@ pub returns-then-end-at : goal.returns-then-end-at
 unfolding outside_of
 returns-then-end-at c = rw (lt-ltb _ _ c.if-end-at.true)
 
-pub returns : goal.returns
+pub returns-else-end-at : goal.returns-else-end-at
 unfolding outside_of
-returns c = rw (le-ltb _ _ c.if-end-at.false)
+returns-else-end-at c = rw (le-ltb _ _ c.if-end-at.false)

@@ -31,41 +31,41 @@ returns-then-end-at c =
 pub returns-then-first-ge128 : goal.returns-then-first-ge128
 returns-then-first-ge128 c =
     let a = c.args in
-    let e : c.wide-first.result ≡ get_or a.s.now a.at 0 = c.wide-first.ensures in
+    let e : c.from-first.result ≡ get_or a.s.now a.at 0 = c.from-first.ensures in
     rw e (given_short a.at (var_uint_one a.s.now a.at a.end (omega arith) (omega arith) (omega arith)) (omega arith))
 
 pub returns-then-end-after : goal.returns-then-end-after
 returns-then-end-after c =
     let a = c.args in
-    let e : c.wide-first.result ≡ get_or a.s.now a.at 0 = c.wide-first.ensures in
+    let e : c.from-first.result ≡ get_or a.s.now a.at 0 = c.from-first.ensures in
     rw e (more_one a.s.now a.at a.end (omega arith) (omega arith) (omega arith))
 
 pub returns-then-second-ge128 : goal.returns-then-second-ge128
 returns-then-second-ge128 c =
     let a = c.args in
-    let e : c.wide-first.result ≡ get_or a.s.now a.at 0 = c.wide-first.ensures in
-    let d : c.wide-second.result ≡ get_or a.s.now (a.at + 1) 0 = c.wide-second.ensures in
+    let e : c.from-first.result ≡ get_or a.s.now a.at 0 = c.from-first.ensures in
+    let d : c.from-second.result ≡ get_or a.s.now (a.at + 1) 0 = c.from-second.ensures in
     rw (e, d) (given_short a.at (var_uint_two a.s.now a.at a.end (omega arith) (omega arith) (omega arith) (omega arith)) (omega arith))
 
 pub returns-then-end-past : goal.returns-then-end-past
 returns-then-end-past c =
     let a = c.args in
-    let e : c.wide-first.result ≡ get_or a.s.now a.at 0 = c.wide-first.ensures in
-    let d : c.wide-second.result ≡ get_or a.s.now (a.at + 1) 0 = c.wide-second.ensures in
+    let e : c.from-first.result ≡ get_or a.s.now a.at 0 = c.from-first.ensures in
+    let d : c.from-second.result ≡ get_or a.s.now (a.at + 1) 0 = c.from-second.ensures in
     rw (e, d) (more_two a.s.now a.at a.end (omega arith) (omega arith) (omega arith) (omega arith))
 
 pub returns-then-third-ge128 : goal.returns-then-third-ge128
 returns-then-third-ge128 c =
     let a = c.args in
-    let e : c.wide-first.result ≡ get_or a.s.now a.at 0 = c.wide-first.ensures in
-    let d : c.wide-second.result ≡ get_or a.s.now (a.at + 1) 0 = c.wide-second.ensures in
-    let f : c.wide-third.result ≡ get_or a.s.now (a.at + 1 + 1) 0 = c.wide-third.ensures in
+    let e : c.from-first.result ≡ get_or a.s.now a.at 0 = c.from-first.ensures in
+    let d : c.from-second.result ≡ get_or a.s.now (a.at + 1) 0 = c.from-second.ensures in
+    let f : c.from-third.result ≡ get_or a.s.now (a.at + 1 + 1) 0 = c.from-third.ensures in
     rw (e, d, f) (given_short a.at (var_uint_three a.s.now a.at a.end (omega arith) (omega arith) (omega arith) (omega arith) (omega arith)) (omega arith))
 
 pub returns : goal.returns
 returns c =
     let a = c.args in
-    let e : c.wide-first.result ≡ get_or a.s.now a.at 0 = c.wide-first.ensures in
-    let d : c.wide-second.result ≡ get_or a.s.now (a.at + 1) 0 = c.wide-second.ensures in
-    let f : c.wide-third.result ≡ get_or a.s.now (a.at + 1 + 1) 0 = c.wide-third.ensures in
+    let e : c.from-first.result ≡ get_or a.s.now a.at 0 = c.from-first.ensures in
+    let d : c.from-second.result ≡ get_or a.s.now (a.at + 1) 0 = c.from-second.ensures in
+    let f : c.from-third.result ≡ get_or a.s.now (a.at + 1 + 1) 0 = c.from-third.ensures in
     rw (e, d, f) (more_three a.s.now a.at a.end (omega arith) (omega arith) (omega arith) (omega arith) (omega arith))

@@ -4,45 +4,43 @@ use native.Mathlib.Omega.{arith}
 use mathlib.Core.Path.{◌≡◌, ◌∙◌, sym, ap}
 use lib.ListN.{get_or}
 use Rattle.numbers.specs.Answers.{last_byte}
-use Rattle.numbers.specs.Read.{var_uint_read}
+use Rattle.numbers.specs.Refusals.{number_of}
 use Rattle.numbers.proofs.LastByte.{last_none}
 use Rattle.numbers.proofs.Grouping.{groups_cut, groups_on, groups_here, grows, fits}
 use Rattle.numbers.proofs.binary_buffer.read_groups.Goals as goal
 
 pub returns-then-i-from-ge-MAX_ENCODED_SIZE_IN_BYTES : goal.returns-then-i-from-ge-MAX_ENCODED_SIZE_IN_BYTES
 returns-then-i-from-ge-MAX_ENCODED_SIZE_IN_BYTES c =
-    let l = c.loop-i in c.read_past_limit.ensures l.value ∙ sym l.invariant.3
+    let l = c.loop-i in c.past_limit.ensures l.value ∙ sym l.invariant.1
 
-pub overflow_mul-grown : goal.overflow_mul-grown
-overflow_mul-grown c =
+pub overflow_mul-value : goal.overflow_mul-value
+overflow_mul-value c =
     let l = c.loop-i in
-    record { fits = omega (arith, fits l.value 0 (l.i - c.args.from) l.invariant.2 (omega arith)) }
+    record { fits = omega (arith, fits l.value 0 (l.i - c.args.from) l.invariant.0 (omega arith)) }
 
-pub overflow_add-grown : goal.overflow_add-grown
-overflow_add-grown c =
+pub overflow_add-value : goal.overflow_add-value
+overflow_add-value c =
     let l = c.loop-i in
-    record { fits = omega (arith, fits l.value c.wide-byte.result (l.i - c.args.from) l.invariant.2 (omega arith)) }
+    record { fits = omega (arith, fits l.value c.from-byte.result (l.i - c.args.from) l.invariant.0 (omega arith)) }
 
 pub returns-then-byte-ge128 : goal.returns-then-byte-ge128
 returns-then-byte-ge128 c =
     let a = c.args in
     let l = c.loop-i in
-    let e : c.wide-byte.result ≡ get_or a.s.now l.i 0 = c.wide-byte.ensures in
+    let e : c.from-byte.result ≡ get_or a.s.now l.i 0 = c.from-byte.ensures in
     rw e
-    (sym (l.invariant.3
-    ∙ groups_here a.cut l.value a.s.now a.from l.i a.end (omega arith) (omega arith) (omega arith) (omega arith)))
+    (sym (l.invariant.1
+    ∙ groups_here (number_of a.cut) l.value a.s.now a.from l.i a.end (omega arith) (omega arith) (omega arith) (omega arith)))
 
 pub loop-i-preserved : goal.loop-i-preserved
 loop-i-preserved c =
     let a = c.args in
     let l = c.loop-i in
-    let e : c.wide-byte.result ≡ get_or a.s.now l.i 0 = c.wide-byte.ensures in
+    let e : c.from-byte.result ≡ get_or a.s.now l.i 0 = c.from-byte.ensures in
     let k : l.i + 1 - a.from ≡ l.i - a.from + 1 = omega arith in (
-      omega arith,
-      omega arith,
-      rw k (grows l.value c.wide-byte.result (l.i - a.from) l.invariant.2),
+      rw k (grows l.value c.from-byte.result (l.i - a.from) l.invariant.0),
       rw e
-          (l.invariant.3 ∙ groups_on a.cut l.value a.s.now a.from l.i a.end (omega arith) (omega arith) (omega arith)),
+          (l.invariant.1 ∙ groups_on (number_of a.cut) l.value a.s.now a.from l.i a.end (omega arith) (omega arith) (omega arith)),
     )
 
 pub returns : goal.returns
@@ -50,8 +48,7 @@ returns c =
     let a = c.args in
     let l = c.loop-i in
     let e : l.i ≡ a.end = omega arith in
-    ap var_uint_read c.refused.ensures
-    ∙ sym
-    (l.invariant.3
-    ∙ groups_cut a.cut l.value a.s.now a.from l.i a.end
+    sym
+    (l.invariant.1
+    ∙ groups_cut (number_of a.cut) l.value a.s.now a.from l.i a.end
     (ap (λ (i : ℕ). last_byte a.s.now i a.end) e ∙ last_none a.s.now a.end))

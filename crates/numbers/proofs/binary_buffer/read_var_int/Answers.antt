@@ -1,33 +1,21 @@
 -- `read_var_int` meets its contract: the first byte has the sign and six bits, and `read_groups` reads the rest.
-use Prim.Native.Nat.{◌+◌, ◌-◌, ◌≤◌}
+use Prim.Native.Nat.{◌+◌, ◌-◌}
 use native.Mathlib.Omega.{arith}
 use borrow.Author.Tests.{eq-eqb}
 use mathlib.Core.Path.{◌≡◌, refl, ◌∙◌, sym}
-use mathlib.Core.Bool.{false}
-use lib.ListN.{length, get_or}
-use Rattle.numbers.specs.Outcome.{and_then, outside_of}
+use lib.ListN.{get_or}
+use Rattle.numbers.specs.Outcome.{and_then}
 use Rattle.numbers.specs.Answers.{var_int, var_number, last_byte}
 use Rattle.numbers.specs.Read.{var_uint_read}
+use Rattle.std.specs.Prelude.{Result}
 use Rattle.numbers.specs.declared.var_uint.VarUInt.{VarUInt}
-use Rattle.numbers.proofs.Outcomes.{inside_order, inside_end}
+use Rattle.numbers.specs.declared.refusal.Refusal.{Refusal}
+use Rattle.numbers.proofs.Passing.{passed_on}
+use Rattle.numbers.proofs.Outcomes.{in_part}
 use Rattle.numbers.proofs.LastByte.{last_none}
 use Rattle.numbers.proofs.Grouping.{signed_by, var_int_one, var_int_groups}
 use Rattle.numbers.proofs.binary_buffer.read_var_int.Goals as goal
 use Rattle.numbers.proofs.binary_buffer.read_var_int.Goals.{After-read_groups, Else-outside}
-
--- past the first test at..end is a part of the slice
-in_part : (c : Else-outside) → let a = c.args in (a.at ≤ a.end) × (a.end ≤ length a.s.now)
-in_part c =
-    let a = c.args in
-    let e : outside_of a.s.now a.at a.end ≡ false = sym c.outside.ensures ∙ c.if-outside.false in
-    (inside_order a.s.now a.at a.end e, inside_end a.s.now a.at a.end e)
-
--- past the first test at..end is a part of the slice
-in_part-After-read_groups : (c : After-read_groups) → let a = c.args in (a.at ≤ a.end) × (a.end ≤ length a.s.now)
-in_part-After-read_groups c =
-    let a = c.args in
-    let e : outside_of a.s.now a.at a.end ≡ false = sym c.outside.ensures ∙ c.if-outside.false in
-    (inside_order a.s.now a.at a.end e, inside_end a.s.now a.at a.end e)
 
 pub returns-then-outside : goal.returns-then-outside
 unfolding var_int var_number
@@ -41,36 +29,38 @@ returns-then-at-end c =
     rw (sym c.outside.ensures ∙ c.if-outside.false, e, eq-eqb a.end a.end refl)
 
 pub bounds-s-at : goal.bounds-s-at
-bounds-s-at c = let b = in_part (goal.at.bounds-s-at c).Else-outside in omega arith
+bounds-s-at c = let b = in_part _ _ _ c.outside.ensures c.if-outside.false in omega arith
 
-pub overflow_add-second : goal.overflow_add-second
-overflow_add-second c = let b = in_part (goal.at.overflow_add-second c).Else-outside in omega arith
+pub overflow_add-next : goal.overflow_add-next
+overflow_add-next c = let b = in_part _ _ _ c.outside.ensures c.if-outside.false in omega arith
 
 pub returns-then-byte-ge128 : goal.returns-then-byte-ge128
 returns-then-byte-ge128 c =
     let a = c.args in
-    let b = in_part (goal.at.returns-then-byte-ge128 c).Else-outside in
-    let e : c.wide-byte.result ≡ get_or a.s.now a.at 0 = c.wide-byte.ensures in
+    let b = in_part _ _ _ c.outside.ensures c.if-outside.false in
+    let e : c.from-byte.result ≡ get_or a.s.now a.at 0 = c.from-byte.ensures in
     rw e (sym (var_int_one a.s.now a.at a.end (omega arith) (omega arith) (omega arith)))
 
 pub read_groups-requires : goal.read_groups-requires
 read_groups-requires c =
     let a = c.args in
-    let b = in_part (goal.at.read_groups-requires c).Else-outside in
+    let b = in_part _ _ _ c.outside.ensures c.if-outside.false in
     let e : a.at + 1 - a.at ≡ 1 = omega arith in
     (omega arith, omega arith, omega arith, rw e (omega arith))
 
 -- what is made of the groups that were read
-made : (c : After-read_groups) {u : VarUInt} → c.read_groups.result ≡ u → let a = c.args in and_then (var_uint_read u) (signed_by c.wide-byte.result) ≡ var_int a.s.now a.at a.end
+made : (c : After-read_groups) {u : Result VarUInt Refusal} → c.read_groups.result ≡ u → let a = c.args in and_then (var_uint_read u) (signed_by c.from-byte.result) ≡ var_int a.s.now a.at a.end
 made c q =
     let a = c.args in
-    let b = in_part-After-read_groups c in
-    let e : c.wide-byte.result ≡ get_or a.s.now a.at 0 = c.wide-byte.ensures in
+    let b = in_part _ _ _ c.outside.ensures c.if-outside.false in
+    let e : c.from-byte.result ≡ get_or a.s.now a.at 0 = c.from-byte.ensures in
     rw (← q, c.read_groups.ensures, e)
     (sym (var_int_groups a.s.now a.at a.end (omega arith) (omega arith) (omega arith)))
 
-pub returns-in-Value : goal.returns-in-Value
-returns-in-Value c = made (goal.at.returns-in-Value c).After-read_groups c.in-Value.is
+pub returns : goal.returns
+returns c = made (goal.at.returns c).After-read_groups c.in_ok-number.was
 
-pub returns-in-Refused : goal.returns-in-Refused
-returns-in-Refused c = made (goal.at.returns-in-Refused c).After-read_groups c.in-Refused.is
+pub returns-in_err-number : goal.returns-in_err-number
+returns-in_err-number c =
+    passed_on _ c.from_residual.result _ c.from_residual.ensures.1
+    ∙ made (goal.at.returns-in_err-number c).After-read_groups c.in_err-number.was

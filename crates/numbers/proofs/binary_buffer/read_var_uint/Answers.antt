@@ -26,4 +26,4 @@ returns-in-More c =
 
 pub returns-in-Outside : goal.returns-in-Outside
 unfolding var_uint var_number
-returns-in-Outside c = rw (c.refused.ensures, told (goal.at.returns-in-Outside c).After-read_first_bytes c.in-Outside.is)
+returns-in-Outside c = rw (told (goal.at.returns-in-Outside c).After-read_first_bytes c.in-Outside.is)

@@ -10,15 +10,13 @@ use Rattle.numbers.specs.Bytes.{part}
 use Rattle.numbers.proofs.Parts.{part_length}
 use Rattle.framing.specs.Spans.{Spans}
 use Rattle.framing.specs.Read.{spans_of}
-use Rattle.stepping.specs.declared.cursor.Rules.{Rules}
-use Rattle.values.specs.Scalars.{is_container, body_rules}
+use Rattle.values.specs.Scalars.{is_container}
 use Rattle.encoding.proofs.Stores.{sets_more}
 use Rattle.packing.specs.Tree.{written}
 use Rattle.packing.specs.Packed.{head_of}
-use Rattle.packing.specs.Private.Items.{tree_at, bytes_at, body_bytes, value_bytes}
-use Rattle.packing.specs.declared.size.Met.TheVariants.{Over, Marker, Value}
-use Rattle.packing.proofs.Places.{held_body, scalar_body, scalar_size, sized-by, handed_alone}
-use Rattle.packing.proofs.Unrolled.{met_bytes, over_bytes, past_bytes, behind_bytes}
+use Rattle.packing.specs.Private.Items.{bytes_at, body_bytes, value_bytes}
+use Rattle.packing.proofs.Places.{part_bytes, held, scalar_body, scalar_size, sized-by, handed_alone}
+use Rattle.packing.proofs.Unrolled.{end_met, marker_met, value_met}
 use Rattle.packing.proofs.Fronts.{value_stored}
 use Rattle.packing.proofs.pack.+pack_part_pack_value.Goals as goal
 
@@ -29,13 +27,6 @@ scalar_bytes limit s from v h c =
     ap (λ (n : ℕ). written (head_of s (part s from v.start) v n) (part s v.body v.end)) (sym (part_length s v.body v.end h))
     ∙ ap (λ (l : List ℕ). written (head_of s (part s from v.start) v (length l)) l) (sym (scalar_body limit s v h c))
 
--- a container's part, packed, is its body
-part_bytes : (limit : ℕ) (s : List ℕ) (v : Spans) (rules : Rules) → v.end ≤ length s → is_container v ≡ true → rules ≡ body_rules v → bytes_at limit s rules v.end v.body ≡ body_bytes limit s v
-part_bytes limit s v rules w i r = ap (λ (x : Rules). bytes_at limit s x v.end v.body) r ∙ sym (held_body limit s v w i)
-
-held : (limit : ℕ) (s : List ℕ) (v : Spans) (rules : Rules) (n : ℕ) → v.end ≤ length s → is_container v ≡ true → rules ≡ body_rules v → n ≡ length (bytes_at limit s rules v.end v.body) → n ≡ length (body_bytes limit s v)
-held limit s v rules n w i r e = e ∙ ap length (part_bytes limit s v rules w i r)
-
 -- what is met is stored, and what is left is stored behind it
 one_stored : (out last old first rest : List ℕ) (next next' : ℕ) (all : List ℕ) → last ≡ sets out next first → next' ≡ next + length first → all ≡ first ++ rest → sets out next all ≡ old → sets last next' rest ≡ old
 one_stored out last old first rest next next' all p q e f =
@@ -45,27 +36,27 @@ one_stored out last old first rest next next' all p q e f =
     ∙ ap (sets out next) (sym e)
     ∙ f
 
-pub pack_part-returns-in-Over-clause-out_after : goal.pack_part-returns-in-Over-clause-out_after
-pack_part-returns-in-Over-clause-out_after t c =
+pub pack_part-returns-clause-out_after : goal.pack_part-returns-clause-out_after
+pack_part-returns-clause-out_after t c =
     let a = c.args in
-    let l = c.loop-major in
-    ap (sets l.out l.next) (sym (met_bytes a.limit a.s.now a.rules a.end l.from l.invariant.1 c.requires.1 Over (c.in-Over.ensures.meets (tree_at a.limit a.s.now) (tree_at a.limit a.s.now a.rules a.end)) ∙ over_bytes a.limit a.s.now a.rules a.end)) ∙ l.invariant.4
+    let l = c.loop-met in
+    ap (sets l.out l.next) (sym (end_met a.limit a.s.now a.rules a.end l.from l.invariant.1 c.requires.1 c.in_default.ensures.meets)) ∙ l.invariant.4
 
-pub pack_part-returns-in-Over-clause-value : goal.pack_part-returns-in-Over-clause-value
-pack_part-returns-in-Over-clause-value t c =
+pub pack_part-returns-clause-value : goal.pack_part-returns-clause-value
+pack_part-returns-clause-value t c =
     let a = c.args in
-    let l = c.loop-major in
-    omega (arith, ap length (met_bytes a.limit a.s.now a.rules a.end l.from l.invariant.1 c.requires.1 Over (c.in-Over.ensures.meets (tree_at a.limit a.s.now) (tree_at a.limit a.s.now a.rules a.end)) ∙ over_bytes a.limit a.s.now a.rules a.end), l.invariant.3)
+    let l = c.loop-met in
+    omega (arith, ap length (end_met a.limit a.s.now a.rules a.end l.from l.invariant.1 c.requires.1 c.in_default.ensures.meets), l.invariant.3)
 
-pub pack_part-loop-major-preserved-in-Marker : goal.pack_part-loop-major-preserved-in-Marker
-pack_part-loop-major-preserved-in-Marker t c =
+pub pack_part-loop-met-preserved-in-Marker : goal.pack_part-loop-met-preserved-in-Marker
+pack_part-loop-met-preserved-in-Marker t c =
     let a = c.args in
-    let l = c.loop-major in
+    let l = c.loop-met in
     let m = c.in-Marker in
-    let f = m.ensures.fits in
+    let f = rw m.is at c.in-Some.ensures.fits in
     let first : List ℕ = 224 ∷ m.major ∷ m.minor ∷ 234 ∷ [] in
     let rest : List ℕ = bytes_at a.limit a.s.now a.rules a.end m.past in
-    let e = met_bytes a.limit a.s.now a.rules a.end l.from l.invariant.1 c.requires.1 (Marker m.major m.minor m.past) (m.ensures.meets (tree_at a.limit a.s.now) (tree_at a.limit a.s.now a.rules a.end)) ∙ past_bytes a.limit a.s.now a.rules a.end m.major m.minor m.past in (
+    let e = marker_met a.limit a.s.now a.rules a.end l.from l.invariant.1 c.requires.1 m.major m.minor m.past (rw m.is at c.in-Some.ensures.meets) in (
       omega (arith, l.invariant.0, f.0),
       f.1,
       ap length c.put_marker.ensures ∙ simp length-sets l.invariant.2,
@@ -76,25 +67,27 @@ pack_part-loop-major-preserved-in-Marker t c =
 pub pack_part-pack_value-next-requires : goal.pack_part-pack_value-next-requires
 pack_part-pack_value-next-requires t c =
     let a = c.args in
-    let l = c.loop-major in
-    let v = c.in-Value.value in
-    let from = c.in-Value.start in
-    let f = c.in-Value.ensures.fits in
+    let l = c.loop-met in
+    let x = c.in-Value.entry in
+    let v = x.value in
+    let from = x.from in
+    let f = rw c.in-Value.is at c.in-Some.ensures.fits in
     let p = f.placed in
-    let e = ap length (met_bytes a.limit a.s.now a.rules a.end l.from l.invariant.1 c.requires.1 (Value from v) (c.in-Value.ensures.meets (tree_at a.limit a.s.now) (tree_at a.limit a.s.now a.rules a.end)) ∙ behind_bytes a.limit a.s.now a.rules a.end from v) ∙ length-append (value_bytes a.limit a.s.now from (spans_of v)) (bytes_at a.limit a.s.now a.rules a.end v.end) in
+    let e = ap length (value_met a.limit a.s.now a.rules a.end l.from l.invariant.1 c.requires.1 x (rw c.in-Value.is at c.in-Some.ensures.meets)) ∙ length-append (value_bytes a.limit a.s.now from (spans_of v)) (bytes_at a.limit a.s.now a.rules a.end v.end) in
     (omega (arith, c.decreases, p.low, p.named, p.started, p.annotated, p.bodied, p.ended, p.within, l.invariant.0), (handed_alone f, omega (arith, e, l.invariant.2, l.invariant.3, c.requires.2)))
 
-pub pack_part-loop-major-preserved : goal.pack_part-loop-major-preserved
-pack_part-loop-major-preserved t c =
+pub pack_part-loop-met-preserved : goal.pack_part-loop-met-preserved
+pack_part-loop-met-preserved t c =
     let a = c.args in
-    let l = c.loop-major in
-    let v = c.in-Value.value in
-    let from = c.in-Value.start in
-    let f = c.in-Value.ensures.fits in
+    let l = c.loop-met in
+    let x = c.in-Value.entry in
+    let v = x.value in
+    let from = x.from in
+    let f = rw c.in-Value.is at c.in-Some.ensures.fits in
     let p = f.placed in
     let first : List ℕ = value_bytes a.limit a.s.now from (spans_of v) in
     let rest : List ℕ = bytes_at a.limit a.s.now a.rules a.end v.end in
-    let e = met_bytes a.limit a.s.now a.rules a.end l.from l.invariant.1 c.requires.1 (Value from v) (c.in-Value.ensures.meets (tree_at a.limit a.s.now) (tree_at a.limit a.s.now a.rules a.end)) ∙ behind_bytes a.limit a.s.now a.rules a.end from v in
+    let e = value_met a.limit a.s.now a.rules a.end l.from l.invariant.1 c.requires.1 x (rw c.in-Value.is at c.in-Some.ensures.meets) in
     let w = c.pack_value-next in (
       omega (arith, l.invariant.0, p.low, p.named, p.started, p.annotated, p.bodied, p.ended),
       p.within,
@@ -107,7 +100,7 @@ pub pack_value-put_front-body-requires : goal.pack_value-put_front-body-requires
 pack_value-put_front-body-requires t c =
     let a = c.args in
     let r = c.requires in
-    let v = spans_of a.value in
+    let v = spans_of a.entry.value in
     let n : ℕ = c.part_size-n.result in
     let con : is_container v ≡ true = sym c.is_container.ensures ∙ c.if-is_container.true in
     let h : n ≡ length (body_bytes a.limit a.s.now v) = held a.limit a.s.now v c.body_rules-rules.result n r.0.placed.within con c.body_rules-rules.ensures c.part_size-n.ensures in
@@ -118,7 +111,7 @@ pub pack_value-pack_part-requires : goal.pack_value-pack_part-requires
 pack_value-pack_part-requires t c =
     let a = c.args in
     let r = c.requires in
-    let v = spans_of a.value in
+    let v = spans_of a.entry.value in
     let n : ℕ = c.part_size-n.result in
     let con : is_container v ≡ true = sym c.is_container.ensures ∙ c.if-is_container.true in
     let h : n ≡ length (body_bytes a.limit a.s.now v) = held a.limit a.s.now v c.body_rules-rules.result n r.0.placed.within con c.body_rules-rules.ensures c.part_size-n.ensures in
@@ -131,7 +124,7 @@ pub pack_value-returns-then-is_container-clause-out_after : goal.pack_value-retu
 pack_value-returns-then-is_container-clause-out_after t c =
     let a = c.args in
     let r = c.requires in
-    let v = spans_of a.value in
+    let v = spans_of a.entry.value in
     let n : ℕ = c.part_size-n.result in
     let con : is_container v ≡ true = sym c.is_container.ensures ∙ c.if-is_container.true in
     let h : n ≡ length (body_bytes a.limit a.s.now v) = held a.limit a.s.now v c.body_rules-rules.result n r.0.placed.within con c.body_rules-rules.ensures c.part_size-n.ensures in
@@ -147,7 +140,7 @@ pub pack_value-returns-then-is_container-clause-value : goal.pack_value-returns-
 pack_value-returns-then-is_container-clause-value t c =
     let a = c.args in
     let r = c.requires in
-    let v = spans_of a.value in
+    let v = spans_of a.entry.value in
     let n : ℕ = c.part_size-n.result in
     let con : is_container v ≡ true = sym c.is_container.ensures ∙ c.if-is_container.true in
     let h : n ≡ length (body_bytes a.limit a.s.now v) = held a.limit a.s.now v c.body_rules-rules.result n r.0.placed.within con c.body_rules-rules.ensures c.part_size-n.ensures in
@@ -157,7 +150,7 @@ pub pack_value-put_scalar-requires : goal.pack_value-put_scalar-requires
 pack_value-put_scalar-requires t c =
     let a = c.args in
     let r = c.requires in
-    let v = spans_of a.value in
+    let v = spans_of a.entry.value in
     let n : ℕ = v.end - v.body in
     let no : is_container v ≡ false = sym c.is_container.ensures ∙ c.if-is_container.false in
     let k : n ≡ length (body_bytes a.limit a.s.now v) = sym (scalar_size a.limit a.s.now v r.0.placed.within no) in
@@ -167,17 +160,17 @@ pub pack_value-returns-clause-out_after : goal.pack_value-returns-clause-out_aft
 pack_value-returns-clause-out_after t c =
     let a = c.args in
     let r = c.requires in
-    let v = spans_of a.value in
+    let v = spans_of a.entry.value in
     let n : ℕ = v.end - v.body in
     let no : is_container v ≡ false = sym c.is_container.ensures ∙ c.if-is_container.false in
     let k : n ≡ length (body_bytes a.limit a.s.now v) = sym (scalar_size a.limit a.s.now v r.0.placed.within no) in
-    c.put_scalar.ensures.out_after ∙ ap (sets a.out.now a.to) (scalar_bytes a.limit a.s.now a.from v r.0.placed.within no)
+    c.put_scalar.ensures.out_after ∙ ap (sets a.out.now a.to) (scalar_bytes a.limit a.s.now a.entry.from v r.0.placed.within no)
 
 pub pack_value-returns-clause-value : goal.pack_value-returns-clause-value
 pack_value-returns-clause-value t c =
     let a = c.args in
     let r = c.requires in
-    let v = spans_of a.value in
+    let v = spans_of a.entry.value in
     let n : ℕ = v.end - v.body in
     let no : is_container v ≡ false = sym c.is_container.ensures ∙ c.if-is_container.false in
     let k : n ≡ length (body_bytes a.limit a.s.now v) = sym (scalar_size a.limit a.s.now v r.0.placed.within no) in

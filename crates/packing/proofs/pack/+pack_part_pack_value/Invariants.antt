@@ -9,15 +9,15 @@ abbrev pub decreases-pack_part : goal.decreases-pack_part
 decreases-pack_part l = (l.end - l.at) + (l.end - l.at) + 1
 
 abbrev pub decreases-pack_value : goal.decreases-pack_value
-decreases-pack_value l = (l.value.end - l.from) + (l.value.end - l.from)
+decreases-pack_value l = (l.entry.value.end - l.entry.from) + (l.entry.value.end - l.entry.from)
 
-abbrev pub invariant-pack_part-loop-major : goal.invariant-pack_part-loop-major
-invariant-pack_part-loop-major l =
+abbrev pub invariant-pack_part-loop-met : goal.invariant-pack_part-loop-met
+invariant-pack_part-loop-met l =
     (l.at ≤ l.from)
     × (l.from ≤ l.end)
     × (length l.out ≡ length l.initial.out)
     × (l.next + length (bytes_at l.limit l.s l.rules l.end l.from) ≡ l.to + length (bytes_at l.limit l.s l.rules l.end l.at))
     × (sets l.out l.next (bytes_at l.limit l.s l.rules l.end l.from) ≡ sets l.initial.out l.to (bytes_at l.limit l.s l.rules l.end l.at))
 
-abbrev pub decreases-pack_part-loop-major : goal.decreases-pack_part-loop-major
-decreases-pack_part-loop-major l = l.end - l.from
+abbrev pub decreases-pack_part-loop-met : goal.decreases-pack_part-loop-met
+decreases-pack_part-loop-met l = l.end - l.from

@@ -24,20 +24,20 @@ unfolding value_size
 summed i m byte n = refl
 
 -- the header's size, and that all fits
-headed : (c : After-header_size-header) → let a = c.args in c.header_size-header.result ≡ header_size (kept_byte a.value.byte a.n) a.n
+headed : (c : After-header_size-header) → let a = c.args in c.header_size-header.result ≡ header_size (kept_byte a.entry.value.byte a.n) a.n
 headed c =
     let a = c.args in
     c.header_size-header.ensures ∙ ap (λ (x : ℕ). header_size x a.n) c.kept_byte-byte.ensures
 
-room : (c : After-header_size-header) → let a = c.args in a.to + ((a.value.start - a.from) + wrap_size (a.value.descriptor - a.value.annotations) (c.header_size-header.result + a.n)) ≤ length a.out.now
+room : (c : After-header_size-header) → let a = c.args in a.to + ((a.entry.value.start - a.entry.from) + wrap_size (a.entry.value.descriptor - a.entry.value.annotations) (c.header_size-header.result + a.n)) ≤ length a.out.now
 room c =
     let a = c.args in
-    let m : ℕ = a.value.descriptor - a.value.annotations in
-    subst (λ (x : ℕ). a.to + ((a.value.start - a.from) + wrap_size m (x + a.n)) ≤ length a.out.now) (sym (headed c))
-    (subst (λ (x : ℕ). a.to + x ≤ length a.out.now) (summed (a.value.start - a.from) m (kept_byte a.value.byte a.n) a.n) c.requires.4)
+    let m : ℕ = a.entry.value.descriptor - a.entry.value.annotations in
+    subst (λ (x : ℕ). a.to + ((a.entry.value.start - a.entry.from) + wrap_size m (x + a.n)) ≤ length a.out.now) (sym (headed c))
+    (subst (λ (x : ℕ). a.to + x ≤ length a.out.now) (summed (a.entry.value.start - a.entry.from) m (kept_byte a.entry.value.byte a.n) a.n) c.requires.4)
 
-least : (c : After-header_size-header) → let a = c.args in c.header_size-header.result + a.n ≤ wrap_size (a.value.descriptor - a.value.annotations) (c.header_size-header.result + a.n)
-least c = let a = c.args in wrap_least (a.value.descriptor - a.value.annotations) (c.header_size-header.result + a.n)
+least : (c : After-header_size-header) → let a = c.args in c.header_size-header.result + a.n ≤ wrap_size (a.entry.value.descriptor - a.entry.value.annotations) (c.header_size-header.result + a.n)
+least c = let a = c.args in wrap_least (a.entry.value.descriptor - a.entry.value.annotations) (c.header_size-header.result + a.n)
 
 pub overflow_add-header : goal.overflow_add-header
 overflow_add-header c = omega (arith, room (goal.at.overflow_add-header c).After-header_size-header, least (goal.at.overflow_add-header c).After-header_size-header)
@@ -57,15 +57,15 @@ pub returns : goal.returns
 returns c =
     let a = c.args in
     let p = c.requires in
-    let v : Spans = spans_of a.value in
-    let name : List ℕ = part a.s.now a.from v.start in
+    let v : Spans = spans_of a.entry.value in
+    let name : List ℕ = part a.s.now a.entry.from v.start in
     let g : Head = head_of a.s.now name v a.n in
     let m : ℕ = v.descriptor - v.annotations in
-    let i : length name ≡ v.start - a.from = part_length a.s.now a.from v.start (omega (arith, p.1, p.2, p.3)) in
+    let i : length name ≡ v.start - a.entry.from = part_length a.s.now a.entry.from v.start (omega (arith, p.1, p.2, p.3)) in
     let j : length g.annotations ≡ m = part_length a.s.now v.annotations v.descriptor p.3 in
     let x : ℕ = header_size g.byte a.n + a.n in
     let e : c.header_size-header.result + a.n ≡ x = ap (λ (y : ℕ). y + a.n) (headed (goal.at.returns c).After-header_size-header) in
-    let named : ℕ = a.to + (v.start - a.from) in
+    let named : ℕ = a.to + (v.start - a.entry.from) in
     let wrapped : ℕ = c.put_wrap-wrapped.result in
     let r : wrapped + x ≡ named + wrap_size m x = subst (λ (y : ℕ). wrapped + y ≡ named + wrap_size m y) e c.put_wrap-wrapped.ensures.n_value in record {
       out_after = c.put_header.ensures
@@ -73,7 +73,7 @@ returns c =
           ∙ ap (λ (l : List ℕ). sets l wrapped (header_of g.byte a.n))
           (c.put_wrap-wrapped.ensures.out_after
           ∙ ap (λ (y : ℕ). sets c.put_bytes.new.out named (wrap_front g.annotations y)) e
-          ∙ ap (λ (l : List ℕ). sets l named (wrap_front g.annotations x)) (c.put_bytes.ensures ∙ ap (sets a.out.now a.to) (part_taken a.s.now a.from v.start p.0 (omega (arith, p.1, p.2, p.3)))))
+          ∙ ap (λ (l : List ℕ). sets l named (wrap_front g.annotations x)) (c.put_bytes.ensures ∙ ap (sets a.out.now a.to) (part_taken a.s.now a.entry.from v.start p.0 (omega (arith, p.1, p.2, p.3)))))
           ∙ front_stored a.out.now a.to named wrapped g a.n (ap (λ (y : ℕ). a.to + y) (sym i)) (r ∙ ap (λ (y : ℕ). named + wrap_size y x) (sym j));
-      n_value = omega (arith, r, headed (goal.at.returns c).After-header_size-header, summed (v.start - a.from) m g.byte a.n);
+      n_value = omega (arith, r, headed (goal.at.returns c).After-header_size-header, summed (v.start - a.entry.from) m g.byte a.n);
     }

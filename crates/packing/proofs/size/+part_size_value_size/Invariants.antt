@@ -8,11 +8,11 @@ abbrev pub decreases-part_size : goal.decreases-part_size
 decreases-part_size l = (l.end - l.at) + (l.end - l.at) + 1
 
 abbrev pub decreases-value_size : goal.decreases-value_size
-decreases-value_size l = (l.value.end - l.from) + (l.value.end - l.from)
+decreases-value_size l = (l.entry.value.end - l.entry.from) + (l.entry.value.end - l.entry.from)
 
-abbrev pub invariant-part_size-loop-past : goal.invariant-part_size-loop-past
-invariant-part_size-loop-past l =
+abbrev pub invariant-part_size-loop-met : goal.invariant-part_size-loop-met
+invariant-part_size-loop-met l =
     (l.at ≤ l.from) × (l.from ≤ l.end) × (l.size + length (bytes_at l.limit l.s l.rules l.end l.from) ≡ length (bytes_at l.limit l.s l.rules l.end l.at))
 
-abbrev pub decreases-part_size-loop-past : goal.decreases-part_size-loop-past
-decreases-part_size-loop-past l = l.end - l.from
+abbrev pub decreases-part_size-loop-met : goal.decreases-part_size-loop-met
+decreases-part_size-loop-met l = l.end - l.from

@@ -14,20 +14,20 @@ unfolding value_size
 summed i m byte n = refl
 
 -- the header's size, and the value's behind its annotations
-headed : (c : After-header_size) → let a = c.args in c.header_size.result ≡ header_size (kept_byte a.value.byte a.n) a.n
+headed : (c : After-header_size) → let a = c.args in c.header_size.result ≡ header_size (kept_byte a.entry.value.byte a.n) a.n
 headed c = let a = c.args in c.header_size.ensures ∙ ap (λ (x : ℕ). header_size x a.n) c.kept_byte.ensures
 
-wrapped : (c : After-header_size) → let a = c.args in (a.value.start - a.from) + wrap_size (a.value.descriptor - a.value.annotations) (c.header_size.result + a.n) < 2 ^ 64
+wrapped : (c : After-header_size) → let a = c.args in (a.entry.value.start - a.entry.from) + wrap_size (a.entry.value.descriptor - a.entry.value.annotations) (c.header_size.result + a.n) < 2 ^ 64
 wrapped c =
     let a = c.args in
-    let m : ℕ = a.value.descriptor - a.value.annotations in
-    subst (λ (x : ℕ). (a.value.start - a.from) + wrap_size m (x + a.n) < 2 ^ 64) (sym (headed c))
-    (subst (λ (x : ℕ). x < 2 ^ 64) (summed (a.value.start - a.from) m (kept_byte a.value.byte a.n) a.n) c.requires.2)
+    let m : ℕ = a.entry.value.descriptor - a.entry.value.annotations in
+    subst (λ (x : ℕ). (a.entry.value.start - a.entry.from) + wrap_size m (x + a.n) < 2 ^ 64) (sym (headed c))
+    (subst (λ (x : ℕ). x < 2 ^ 64) (summed (a.entry.value.start - a.entry.from) m (kept_byte a.entry.value.byte a.n) a.n) c.requires.2)
 
 pub overflow_add-size : goal.overflow_add-size
 overflow_add-size c =
     let a = c.args in
-    omega (arith, wrapped c, wrap_least (a.value.descriptor - a.value.annotations) (c.header_size.result + a.n))
+    omega (arith, wrapped c, wrap_least (a.entry.value.descriptor - a.entry.value.annotations) (c.header_size.result + a.n))
 
 pub wrap_size-requires : goal.wrap_size-requires
 wrap_size-requires c = omega (arith, wrapped (goal.at.wrap_size-requires c).After-header_size)
@@ -38,7 +38,7 @@ overflow_add-result c = omega (arith, wrapped (goal.at.overflow_add-result c).Af
 pub returns : goal.returns
 returns c =
     let a = c.args in
-    let m : ℕ = a.value.descriptor - a.value.annotations in
-    ap (λ (x : ℕ). (a.value.start - a.from) + x) c.wrap_size.ensures
-    ∙ ap (λ (x : ℕ). (a.value.start - a.from) + wrap_size m (x + a.n)) (headed (goal.at.returns c).After-header_size)
-    ∙ sym (summed (a.value.start - a.from) m (kept_byte a.value.byte a.n) a.n)
+    let m : ℕ = a.entry.value.descriptor - a.entry.value.annotations in
+    ap (λ (x : ℕ). (a.entry.value.start - a.entry.from) + x) c.wrap_size.ensures
+    ∙ ap (λ (x : ℕ). (a.entry.value.start - a.entry.from) + wrap_size m (x + a.n)) (headed (goal.at.returns c).After-header_size)
+    ∙ sym (summed (a.entry.value.start - a.entry.from) m (kept_byte a.entry.value.byte a.n) a.n)

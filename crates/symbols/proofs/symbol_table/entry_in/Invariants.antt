@@ -6,8 +6,6 @@ use Rattle.symbols.specs.Turns.{step_all}
 use Rattle.symbols.specs.Text.{listed, on_entry, own_text}
 use Rattle.symbols.proofs.symbol_table.entry_in.Given as goal
 
-abbrev pub invariant-loop-value : goal.invariant-loop-value
-invariant-loop-value l = step_all l.limit Sequence l.s (on_entry l.s) l.at l.end l.left ≡ own_text l.limit l.s l.count (listed l.start l.end)
-
-abbrev pub decreases-loop-value : goal.decreases-loop-value
-decreases-loop-value l = l.end - l.at
+abbrev pub invariant-loop : goal.invariant-loop
+invariant-loop l =
+    step_all l.limit Sequence l.s (on_entry l.s) l.at l.list.end (l.count - l.counter) ≡ own_text l.limit l.s l.count (listed l.list.start l.list.end)

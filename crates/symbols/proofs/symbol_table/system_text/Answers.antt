@@ -1,15 +1,11 @@
 -- `system_text` meets its contract: the table has each text's start, by one computed test.
 use Prim.Native.Nat.{◌-◌, ◌<◌}
 use native.Mathlib.Omega.{arith}
-use borrow.Author.Tests.{eq-eqb, ne_eqb}
-use Rattle.numbers.proofs.Table.{entry}
+use borrow.Author.Tests.{ne_eqb}
+use Rattle.framing.proofs.Table.{entry}
 use Rattle.symbols.specs.SystemTexts.{system_texts, text_start}
 use Rattle.symbols.specs.Text.{system_text}
 use Rattle.symbols.proofs.symbol_table.system_text.Goals as goal
-
-pub returns-then-id-eq0 : goal.returns-then-id-eq0
-unfolding system_text
-returns-then-id-eq0 c = rw (eq-eqb _ _ c.if-id-eq0.true)
 
 pub returns : goal.returns
 unfolding system_text text_start system_texts

@@ -2,35 +2,33 @@
 use native.Mathlib.Omega.{arith}
 use mathlib.Core.Path.{◌∙◌, sym, ap}
 use Rattle.numbers.specs.Read.{var_uint_read}
-use Rattle.timestamps.proofs.FieldReading.{progress_start, progress_on, progress_last, progress_refused, progress_done}
+use Rattle.numbers.proofs.Passing.{passed_on}
+use Rattle.timestamps.proofs.FieldReading.{progress_on, progress_last, progress_refused, progress_done}
 use Rattle.timestamps.proofs.timestamp.read_fields.Goals as goal
+use Rattle.timestamps.proofs.timestamp.read_fields.Goals.{else-loop-value-test, then-loop-value-test+in_ok-number+then-next-end}
 
-pub loop-count-init : goal.loop-count-init
-loop-count-init c =
-    let a = c.args in progress_start a.s.now a.end a.at
-
-pub returns-then-next-end : goal.returns-then-next-end
-returns-then-next-end c =
-    let l = c.loop-count in
+pub returns-in_err-number : goal.returns-in_err-number
+returns-in_err-number c =
+    let l = c.loop-value in
     let a = c.args in
-    c.fields_read.ensures
-    ∙ progress_last a.s.now a.end a.at l.values l.count l.from l.invariant (omega arith) _ _ (sym c.read_var_uint.ensures ∙ ap var_uint_read c.in-Value.is) c.if-next-end.true
+    passed_on _ c.from_residual.result _ c.from_residual.ensures.1
+    ∙ progress_refused a.s.now a.end a.at l.value-items l.value-index l.next l.invariant.1 (omega arith) _ _ (sym c.read_var_uint.ensures ∙ ap var_uint_read c.in_err-number.was)
 
-pub loop-count-preserved : goal.loop-count-preserved
-loop-count-preserved c =
-    let l = c.loop-count in
+pub loop-value-preserved : goal.loop-value-preserved
+loop-value-preserved c =
+    let l = c.loop-value in
     let a = c.args in
-    progress_on a.s.now a.end a.at l.values l.count l.from l.invariant (omega arith) _ _ (sym c.read_var_uint.ensures ∙ ap var_uint_read c.in-Value.is) c.if-next-end.false
-
-pub returns-in-Refused : goal.returns-in-Refused
-returns-in-Refused c =
-    let l = c.loop-count in
-    let a = c.args in
-    progress_refused a.s.now a.end a.at l.values l.count l.from l.invariant (omega arith) _ _ (sym c.read_var_uint.ensures ∙ ap var_uint_read c.in-Refused.is)
+    (omega arith, progress_on a.s.now a.end a.at l.value-items l.value-index l.next l.invariant.1 (omega arith) _ _ (sym c.read_var_uint.ensures ∙ ap var_uint_read c.in_ok-number.was) c.if-next-end.false)
 
 pub returns : goal.returns
 returns c =
-    let l = c.loop-count in
+    let l = c.loop-value in
     let a = c.args in
-    c.fields_read-2.ensures
-    ∙ progress_done a.s.now a.end a.at l.values l.count l.from l.invariant (omega arith)
+    elim c.loop-value-test.branch [
+      | else-loop-value-test w ↦
+          rw (w.values-is, w.count-is, w.next-is, l.invariant.0)
+          (progress_done a.s.now a.end a.at l.value-items l.value-index l.next l.invariant.1 (omega (arith, l.invariant.1.size)))
+      | then-loop-value-test+in_ok-number+then-next-end w ↦
+          rw (w.values-is, w.count-is, w.next-is, l.invariant.0)
+          (progress_last a.s.now a.end a.at l.value-items l.value-index l.next l.invariant.1 (omega (arith, l.invariant.1.size)) _ _ (sym w.read_var_uint.ensures ∙ ap var_uint_read w.in_ok-number.was) w.if-next-end.true)
+    ]

@@ -1,57 +1,55 @@
--- `read_fraction` meets its contract: at each return the decimal's answer, the number of fields and the magnitude say which case holds.
-use borrow.Author.Tests.{eq-eqb, ne_eqb}
+-- `read_fraction` meets its contract: at each return the decimal's answer and the magnitude say which case holds.
+use Prim.Native.Nat.{ℕ}
 use native.Mathlib.Omega.{arith}
+use borrow.Author.Rules.{rules}
 use mathlib.Core.Path.{◌≡◌, ◌∙◌, sym, ap}
-use mathlib.Core.Bool.{false}
-use lib.Dec.{eqb}
+use mathlib.Core.List.{List, ◌∷◌}
+use Rattle.numbers.specs.Format.{of_digits}
 use Rattle.numbers.specs.Outcome.{gives}
-use Rattle.bodies.specs.Decimal.{Split, decimal, decimal_read}
-use Rattle.bodies.specs.declared.decimal.Decimal.{Decimal}
-use Rattle.timestamps.specs.Timestamp.{with_fraction, with_decimal, hour_alone, too_wide, judged}
+use Rattle.numbers.specs.Bytes.{part}
+use Rattle.numbers.proofs.Parts.{part_taken}
+use Rattle.bodies.specs.Decimal.{split_read, decimal, decimal_read}
 use Rattle.bodies.proofs.Splitting.{RestWithin, rest_within}
-use Rattle.timestamps.proofs.FieldReading.{magnitude_held, magnitude_long}
+use Rattle.timestamps.specs.Private.Reading.{magnitude_answer}
+use Rattle.timestamps.proofs.Stamps.{fraction_absent, fraction_held, fraction_long}
 use Rattle.timestamps.proofs.timestamp.read_fraction.Goals as goal
-use Rattle.timestamps.proofs.timestamp.read_fraction.Goals.{After-read_decimal, Else-fields-eq4}
+use Rattle.timestamps.proofs.timestamp.read_fraction.Goals.{In_ok-decimal, After-read_magnitude}
 
--- the decimal by what was answered
-split : (c : After-read_decimal) {u : Decimal} → c.read_decimal.result ≡ u → let a = c.args in decimal a.s.now a.at a.end ≡ decimal_read u
-split c q = sym c.read_decimal.ensures ∙ ap decimal_read q
+-- the decimal that was read, and where its coefficient's bytes after the first stand
+split : (c : In_ok-decimal) → let a = c.args in decimal a.s.now a.at a.end ≡ gives (split_read c.in_ok-decimal.decimal)
+split c = sym c.read_decimal.ensures ∙ ap decimal_read c.in_ok-decimal.was
 
--- where its coefficient's bytes after the first stand
-told : (c : After-read_decimal) (d : Split) → decimal_read c.read_decimal.result ≡ gives d → RestWithin c.args.s.now d
-told c d e =
+rest : (c : In_ok-decimal) → RestWithin c.args.s.now (split_read c.in_ok-decimal.decimal)
+rest c = let a = c.args in rest_within a.s.now a.at a.end _ (split c)
+
+pub returns-then-at-end : goal.returns-then-at-end
+returns-then-at-end c =
+    let a = c.args in rw c.if-at-end.true (fraction_absent a.descriptor a.s.now a.end c.requires.1)
+
+pub slice_bounds-read_magnitude-count : goal.slice_bounds-read_magnitude-count
+slice_bounds-read_magnitude-count c = (rest (goal.at.slice_bounds-read_magnitude-count c).In_ok-decimal).order
+
+pub slice_bounds-read_magnitude-start : goal.slice_bounds-read_magnitude-start
+slice_bounds-read_magnitude-start c =
+    let t = rest (goal.at.slice_bounds-read_magnitude-start c).In_ok-decimal in search rules
+
+pub slice_bounds-read_magnitude-end : goal.slice_bounds-read_magnitude-end
+slice_bounds-read_magnitude-end c =
+    let t = rest (goal.at.slice_bounds-read_magnitude-end c).In_ok-decimal in search rules
+
+-- its magnitude
+measured : (c : After-read_magnitude) → let d = c.in_ok-decimal.decimal.coefficient in c.read_magnitude.result ≡ magnitude_answer (of_digits 256 (d.first ∷ part c.args.s.now d.rest d.end))
+measured c =
+    let r = rest (goal.at.After-read_magnitude c).In_ok-decimal in
+    c.read_magnitude.ensures
+    ∙ ap (λ (l : List ℕ). magnitude_answer (of_digits 256 (c.in_ok-decimal.decimal.coefficient.first ∷ l))) (part_taken _ _ _ r.order r.within)
+
+pub returns-in_default : goal.returns-in_default
+returns-in_default c =
     let a = c.args in
-    rest_within a.s.now a.at a.end d (sym c.read_decimal.ensures ∙ e)
+    fraction_long a.descriptor a.s.now a.at a.end _ (split (goal.at.returns-in_default c).In_ok-decimal) (sym (measured (goal.at.returns-in_default c).After-read_magnitude) ∙ c.in_default.is)
 
-not_hour_alone : (c : Else-fields-eq4) → eqb c.args.fields.count 4 ≡ false
-not_hour_alone c = ne_eqb c.args.fields.count 4 (omega (arith, c.if-fields-eq4.false))
-
-pub returns-then-fields-eq4 : goal.returns-then-fields-eq4
-unfolding with_decimal with_fraction judged hour_alone too_wide
-returns-then-fields-eq4 c =
-    let f = c.args.fields in
-    rw
-    (c.refused.ensures, split (goal.at.returns-then-fields-eq4 c).After-read_decimal c.in-Value.is, eq-eqb f.count 4 (omega (arith, c.if-fields-eq4.true)))
-
-pub read_magnitude-requires : goal.read_magnitude-requires
-read_magnitude-requires c =
-    let t = told (goal.at.read_magnitude-requires c).After-read_decimal _ (ap decimal_read c.in-Value.is) in
-    (t.order, t.within)
-
-pub returns-in-Value-read_magnitude : goal.returns-in-Value-read_magnitude
-unfolding with_decimal with_fraction judged hour_alone too_wide
-returns-in-Value-read_magnitude c =
-    let h = magnitude_held _ _ (sym c.read_magnitude.ensures ∙ c.in-Value-read_magnitude.is) in
-    c.answer_in_range.ensures
-    ∙ rw
-    (split (goal.at.returns-in-Value-read_magnitude c).After-read_decimal c.in-Value.is, not_hour_alone (goal.at.returns-in-Value-read_magnitude c).Else-fields-eq4, h.0, h.1)
-
-pub returns-in-TooLong : goal.returns-in-TooLong
-unfolding with_decimal with_fraction judged hour_alone too_wide
-returns-in-TooLong c =
-    rw
-    (c.refused-in-TooLong.ensures, split (goal.at.returns-in-TooLong c).After-read_decimal c.in-Value.is, not_hour_alone (goal.at.returns-in-TooLong c).Else-fields-eq4, magnitude_long _ (sym c.read_magnitude.ensures ∙ c.in-TooLong.is))
-
-pub returns-in-Refused : goal.returns-in-Refused
-unfolding with_decimal
-returns-in-Refused c = rw (split (goal.at.returns-in-Refused c).After-read_decimal c.in-Refused.is)
+pub returns : goal.returns
+returns c =
+    let a = c.args in
+    fraction_held a.descriptor a.s.now a.at a.end _ (split (goal.at.returns c).In_ok-decimal) c.in-Some.coefficient (omega arith) (sym (measured (goal.at.returns c).After-read_magnitude) ∙ c.in-Some.is)

@@ -13,7 +13,7 @@ unfolding limits_out
 returns-then-deepest-lt-LEAST_DEPTH c =
     rw (sym c.out_of_range.ensures ∙ c.if-out_of_range.false, lt-ltb _ _ c.if-deepest-lt-LEAST_DEPTH.true)
 
-pub returns : goal.returns
+pub returns-else-deepest-lt-LEAST_DEPTH : goal.returns-else-deepest-lt-LEAST_DEPTH
 unfolding limits_out
-returns c =
+returns-else-deepest-lt-LEAST_DEPTH c =
     rw (sym c.out_of_range.ensures ∙ c.if-out_of_range.false, le-ltb _ _ c.if-deepest-lt-LEAST_DEPTH.false)

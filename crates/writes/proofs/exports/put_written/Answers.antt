@@ -1,17 +1,12 @@
--- `put_written` meets its contract: the record of the answer's words tells its number.
-use Prim.Native.Nat.{ℕ}
-use mathlib.Core.Path.{◌∙◌, ap}
-use mathlib.Core.List.{List}
+-- `put_written` meets its contract: the closure's answer is put, where there is room.
+use mathlib.Core.Path.{refl}
 use Rattle.writing.specs.Read.{written_read}
-use Rattle.records.specs.Buffer.{record_in, returned_by}
-use Rattle.writes.proofs.Writing.{write_returned}
+use Rattle.records.proofs.Numbers.{put_answer, bytes_number}
+use Rattle.writes.specs.Writes.{write_words}
 use Rattle.writes.proofs.exports.put_written.Goals as goal
 
-pub returns : goal.returns
-returns c =
-    let a = c.args in
-    let e = c.written_words.ensures in
-    record {
-      value = c.put_record.ensures.value ∙ ap (λ (ws : List ℕ). returned_by ws a.out.now) e ∙ write_returned (written_read a.answer) a.out.now;
-      out_after = c.put_record.ensures.out_after ∙ ap (λ (ws : List ℕ). record_in ws a.out.now) e;
-    }
+pub returns-clause-long : goal.returns-clause-long
+returns-clause-long g c = λ h.
+    let o = written_read c.write.result in
+    let p = put_answer 9 (write_words o) c.args.out.now o (bytes_number 17 o) c.bytes_words.ensures c.put_record.ensures in
+    (c.write.result, record { shown = _; shows = refl; left = _; met = c.write.ensures; leaves = refl }, p.value, p.out_after)

@@ -7,7 +7,4 @@ use Rattle.writing.proofs.Pads.{length_by}
 use Rattle.writing.proofs.pad.pad_field.Given as goal
 
 abbrev pub invariant-loop-k : goal.invariant-loop-k
-invariant-loop-k l = (15 ≤ l.size) × (1 ≤ l.k) × (l.k ≤ 10) × (pad_field l.size ≡ fewest (10 - l.k) l.k (length_by l.size))
-
-abbrev pub decreases-loop-k : goal.decreases-loop-k
-decreases-loop-k l = 10 - l.k
+invariant-loop-k l = (15 ≤ l.size) × (pad_field l.size ≡ fewest (10 - l.k) l.k (length_by l.size))

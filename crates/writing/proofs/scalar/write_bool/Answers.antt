@@ -1,17 +1,10 @@
 -- `write_bool` meets its contract: its byte is put.
-use Prim.Native.Nat.{ℕ}
-use mathlib.Core.Path.{refl, ◌∙◌, ap}
-use mathlib.Core.List.{[], ◌∷◌}
+use mathlib.Core.Path.{refl, ◌∙◌}
 use lib.ListN.{length}
 use Rattle.writing.specs.Things.{bool}
-use Rattle.writing.specs.Answers.{buffer_after}
-use Rattle.writing.specs.Read.{written_read}
 use Rattle.writing.proofs.Stages.{fitted_is}
 use Rattle.writing.proofs.scalar.write_bool.Goals as goal
 
-pub returns : goal.returns
-returns c =
-    let a = c.args in record {
-      answers = (λ limit deepest. c.put_one.ensures.answers ∙ fitted_is limit deepest (bool a.value) (length a.to.now) refl refl refl);
-      puts = c.put_one.ensures.puts ∙ ap (λ (b : ℕ). buffer_after (b ∷ []) a.to.now (written_read c.put_one.result)) c.bool_byte.ensures;
-    }
+pub returns-clause-answers : goal.returns-clause-answers
+returns-clause-answers c =
+    λ limit deepest. c.put_one.ensures.answers ∙ fitted_is limit deepest (bool c.args.value) (length c.args.to.now) refl refl refl

@@ -1,30 +1,18 @@
 -- `write_null` meets its contract: 50 for a type that is none, else its byte is put.
-use Prim.Native.Nat.{ℕ}
-use native.Mathlib.Omega.{arith}
 use borrow.Author.Tests.{lt-ltb, le-ltb}
 use mathlib.Core.Path.{refl, ◌∙◌, ap}
-use mathlib.Core.List.{[], ◌∷◌}
 use lib.ListN.{length}
-use Rattle.writing.specs.Things.{null, null_byte}
-use Rattle.writing.specs.Answers.{buffer_after}
+use Rattle.writing.specs.Things.{null}
 use Rattle.writing.specs.Read.{written_read}
-use Rattle.writing.proofs.Lengths.{kept}
 use Rattle.writing.proofs.Stages.{outside_is, fitted_is}
 use Rattle.writing.proofs.scalar.write_null.Goals as goal
 
-pub returns-then-type_code-gt-LAST_TYPE : goal.returns-then-type_code-gt-LAST_TYPE
-returns-then-type_code-gt-LAST_TYPE c =
-    let a = c.args in record {
-      answers = (λ limit deepest. c.refused.ensures ∙ outside_is limit deepest (null a.type_code) (length a.to.now) (lt-ltb 13 a.type_code c.if-type_code-gt-LAST_TYPE.true));
-      puts = kept (null_byte a.type_code ∷ []) a.to.now c.refused.ensures;
-    }
+pub returns-then-type_code-gt-LAST_TYPE-clause-answers : goal.returns-then-type_code-gt-LAST_TYPE-clause-answers
+returns-then-type_code-gt-LAST_TYPE-clause-answers c =
+    let a = c.args in
+    λ limit deepest. ap written_read c.refused.ensures ∙ outside_is limit deepest (null a.type_code) (length a.to.now) (lt-ltb 13 a.type_code c.if-type_code-gt-LAST_TYPE.true)
 
-pub null_byte-requires : goal.null_byte-requires
-null_byte-requires c = omega (arith, c.if-type_code-gt-LAST_TYPE.false)
-
-pub returns : goal.returns
-returns c =
-    let a = c.args in record {
-      answers = (λ limit deepest. c.put_one.ensures.answers ∙ fitted_is limit deepest (null a.type_code) (length a.to.now) (le-ltb 13 a.type_code c.if-type_code-gt-LAST_TYPE.false) refl refl);
-      puts = c.put_one.ensures.puts ∙ ap (λ (b : ℕ). buffer_after (b ∷ []) a.to.now (written_read c.put_one.result)) c.null_byte.ensures;
-    }
+pub returns-clause-answers : goal.returns-clause-answers
+returns-clause-answers c =
+    let a = c.args in
+    λ limit deepest. c.put_one.ensures.answers ∙ fitted_is limit deepest (null a.type_code) (length a.to.now) (le-ltb 13 a.type_code c.if-type_code-gt-LAST_TYPE.false) refl refl

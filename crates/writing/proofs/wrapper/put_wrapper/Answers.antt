@@ -8,7 +8,8 @@ use lib.Seq.{sets}
 use Rattle.encoding.specs.Fields.{var_uint_size, var_uint_bytes}
 use Rattle.encoding.specs.Heads.{head_size, wrapped_bytes, wrapper_bytes}
 use Rattle.encoding.proofs.Heads.{head_few, wrapped_length, wrapper_length}
-use Rattle.writing.proofs.Lengths.{not_past, too_short, fits, kept, wrapper_stored}
+use Rattle.writing.proofs.Lengths.{not_past, too_short, fits, wrapper_stored}
+use Rattle.writing.specs.Read.{written_read}
 use Rattle.writing.proofs.wrapper.put_wrapper.Goals as goal
 
 size : (a v : List ℕ) (field : ℕ) → field ≡ var_uint_size (length a) → field + (length a + length v) ≡ length (wrapped_bytes a v)
@@ -30,14 +31,11 @@ overflow_add-size c =
     let e = size c.args.annotations.now c.args.value.now c.var_uint_size-field.result c.var_uint_size-field.ensures in
     omega (arith, head_few n h, c.head_size-head.ensures ∙ ap head_size e, e)
 
-pub returns-then-to-size : goal.returns-then-to-size
-returns-then-to-size c =
+pub returns-then-to-size-clause-answers : goal.returns-then-to-size-clause-answers
+returns-then-to-size-clause-answers c =
     let a = c.args in
     let e = whole a.annotations.now a.value.now c.var_uint_size-field.result c.head_size-head.result c.var_uint_size-field.ensures c.head_size-head.ensures in
-    record {
-      answers = c.refused.ensures ∙ too_short (length a.to.now) (c.head_size-head.result + (c.var_uint_size-field.result + (length a.annotations.now + length a.value.now))) (length (wrapper_bytes a.annotations.now a.value.now)) e c.if-to-size.true;
-      puts = kept (wrapper_bytes a.annotations.now a.value.now) a.to.now c.refused.ensures;
-    }
+    ap written_read c.refused.ensures ∙ too_short (length a.to.now) (c.head_size-head.result + (c.var_uint_size-field.result + (length a.annotations.now + length a.value.now))) (length (wrapper_bytes a.annotations.now a.value.now)) e c.if-to-size.true
 
 pub returns : goal.returns
 returns c =

@@ -7,7 +7,8 @@ use lib.ListN.{length}
 use lib.Seq.{sets}
 use Rattle.encoding.specs.Heads.{head_bytes, typed_bytes}
 use Rattle.encoding.proofs.Heads.{head_few, typed_length}
-use Rattle.writing.proofs.Lengths.{not_past, too_short, fits, kept, typed_stored}
+use Rattle.writing.proofs.Lengths.{not_past, too_short, fits, typed_stored}
+use Rattle.writing.specs.Read.{written_read}
 use Rattle.writing.proofs.written.put_typed.Goals as goal
 
 pub overflow_add-size : goal.overflow_add-size
@@ -17,14 +18,11 @@ overflow_add-size c =
     let h : n < 2 ^ 63 = not_past n c.requires.1 in
     omega (arith, head_few n h, c.head_size-head.ensures)
 
-pub returns-then-to-size : goal.returns-then-to-size
-returns-then-to-size c =
+pub returns-then-to-size-clause-answers : goal.returns-then-to-size-clause-answers
+returns-then-to-size-clause-answers c =
     let a = c.args in
     let e : c.head_size-head.result + length a.body.now ≡ length (typed_bytes a.type_code a.body.now) = ap (λ (k : ℕ). k + length a.body.now) c.head_size-head.ensures ∙ sym (typed_length a.type_code a.body.now) in
-    record {
-      answers = c.refused.ensures ∙ too_short (length a.to.now) (c.head_size-head.result + length a.body.now) (length (typed_bytes a.type_code a.body.now)) e c.if-to-size.true;
-      puts = kept (typed_bytes a.type_code a.body.now) a.to.now c.refused.ensures;
-    }
+    ap written_read c.refused.ensures ∙ too_short (length a.to.now) (c.head_size-head.result + length a.body.now) (length (typed_bytes a.type_code a.body.now)) e c.if-to-size.true
 
 pub returns : goal.returns
 returns c =

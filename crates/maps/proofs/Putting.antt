@@ -1,0 +1,73 @@
+-- An answer whose words were put, and where it leaves its caller.
+-- Assumes nothing.
+use Prim.Native.Nat.{ℕ, ◌≤◌}
+use borrow.Author.Tests.{le-ltb}
+use mathlib.Core.Path.{◌≡◌, refl, ◌∙◌, sym, ap}
+use mathlib.Core.List.{List}
+use lib.ListN.{length}
+use Rattle.std.specs.Prelude.{Option, Some, None}
+use Rattle.std.specs.declared.ops.ControlFlow.TheVariants.{Continue, Break}
+use Rattle.numbers.specs.Outcome.{Outcome, gives, refuses}
+use Rattle.framing.specs.Spans.{Spans}
+use Rattle.stepping.specs.Items.{Item, finish, marker, value, field}
+use Rattle.stepping.specs.Leaving.{left_of, on_left}
+use Rattle.stepping.specs.Names.{item_by}
+use Rattle.stepping.specs.declared.cursor.Rules.{Rules}
+use Rattle.stepping.specs.declared.cursor.Rules.TheVariants.{Stream, Sequence, Fields}
+use Rattle.records.specs.Buffer.{record_size, record_in, returned, returned_by, answered, number_of}
+use Rattle.records.specs.Words.{words}
+use Rattle.records.proofs.Numbers.{returned-by, step_number}
+use Rattle.maps.specs.Put.{put_by}
+
+-- a value leaves its caller at its end, whatever the rules
+pub value_leaves : (rules : Rules) (at id : ℕ) (v : Spans) → left_of (gives (item_by rules at id v)) ≡ Some v.end
+value_leaves Stream at id v = refl
+value_leaves Sequence at id v = refl
+value_leaves Fields at id v = refl
+
+-- where there is room for its record, a call returns the answer's number
+pub returned_room : (old : List ℕ) → record_size ≤ length old → (o : Outcome Item) → returned old o ≡ number_of o
+unfolding answered
+returned_room old h o = rw (le-ltb (length old) record_size h)
+
+-- what the call returns that puts an answer's words
+by_answer : (old : List ℕ) (o : Outcome Item) → returned_by (words o) old ≡ returned old o
+by_answer old o = returned-by 9 (words o) old o (step_number o)
+
+-- ---- words that are put are an answer's
+
+module _ (old : List ℕ) {o p : Outcome Item} {n : ℕ} {new ws : List ℕ} (q : p ≡ o) (e : ws ≡ words p) (h : record { value : n ≡ returned_by ws old; out_after : new ≡ record_in ws old }) where
+  record_put : new ≡ record_in (words o) old
+  record_put = h.out_after ∙ ap (λ (w : List ℕ). record_in w old) (e ∙ ap words q)
+
+  pub put_at : {k : ℕ} → left_of p ≡ Some k → record { value : Continue k ≡ put_by o old; out_after : new ≡ record_in (words o) old }
+  put_at f = record {
+    value = sym (ap (λ (l : Option ℕ). on_left l (Break (returned_by (words p) old)) (λ k. Continue k)) f) ∙ ap (λ x. put_by x old) q;
+    out_after = record_put;
+  }
+
+  pub put_over : left_of p ≡ None → record { value : Break n ≡ put_by o old; out_after : new ≡ record_in (words o) old }
+  put_over f = record {
+    value =
+        ap (λ (m : ℕ). Break m) (h.value ∙ ap (λ (w : List ℕ). returned_by w old) e)
+        ∙ sym (ap (λ (l : Option ℕ). on_left l (Break (returned_by (words p) old)) (λ k. Continue k)) f)
+        ∙ ap (λ x. put_by x old) q;
+    out_after = record_put;
+  }
+
+-- ---- and back
+
+-- an answer that leaves its caller at a place is no refusal
+pub at_left : (o : Outcome Item) (k : ℕ) (old : List ℕ) → put_by o old ≡ Continue k → (left_of o ≡ Some k) × (number_of o ≡ 0)
+at_left (gives (finish p)) k old h = absurd cc
+at_left (gives (marker a major minor e)) k old h = (cc, refl)
+at_left (gives (value v)) k old h = (cc, refl)
+at_left (gives (field id a v)) k old h = (cc, refl)
+at_left (refuses number position) k old h = absurd cc
+
+pub over_left : (o : Outcome Item) (k : ℕ) (old : List ℕ) → put_by o old ≡ Break k → (left_of o ≡ None) × (k ≡ returned old o)
+over_left (gives (finish p)) k old h = (refl, let e : k ≡ returned_by (words (gives (finish p))) old = cc in e ∙ by_answer old (gives (finish p)))
+over_left (gives (marker a major minor e)) k old h = absurd cc
+over_left (gives (value v)) k old h = absurd cc
+over_left (gives (field id a v)) k old h = absurd cc
+over_left (refuses number position) k old h = (refl, let e : k ≡ returned_by (words (refuses number position)) old = cc in e ∙ by_answer old (refuses number position))

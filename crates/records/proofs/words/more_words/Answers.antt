@@ -1,6 +1,0 @@
--- `more_words` meets its contract: its words are the definition's, one for one.
-use mathlib.Core.Path.{refl}
-use Rattle.records.proofs.words.more_words.Goals as goal
-
-pub returns : goal.returns
-returns c = refl

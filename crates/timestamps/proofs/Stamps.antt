@@ -1,0 +1,97 @@
+-- What is made of the offset, the fields and the fraction that were read is the definition's answer.
+-- Assumes nothing.
+use Prim.Native.Nat.{ℕ, ◌^◌, ◌≤◌, ◌<◌}
+use native.Mathlib.Omega.{arith}
+use borrow.Author.Tests.{eq-eqb, ne_eqb, ltb-true, ltb-false, le-ltb, lt-ltb}
+use mathlib.Core.Path.{◌≡◌, refl, ◌∙◌, sym, ap}
+use mathlib.Core.Bool.{true, false}
+use mathlib.Core.List.{List, ◌∷◌}
+use lib.ListN.{length}
+use lib.Dec.{leb, ltb}
+use Rattle.std.specs.Prelude.{None, Some}
+use Rattle.numbers.specs.Format.{of_digits}
+use Rattle.numbers.specs.Outcome.{Outcome, gives, refuses, and_then}
+use Rattle.numbers.specs.Bytes.{part}
+use Rattle.numbers.specs.Answers.{Signed, var_int}
+use Rattle.numbers.proofs.Outcomes.{by_case, by_test, refuse_first}
+use Rattle.numbers.proofs.Meaning.{var_int_at}
+use Rattle.numbers.proofs.Parts.{part_none}
+use Rattle.bodies.specs.Decimal.{Split, decimal}
+use Rattle.timestamps.specs.Timestamp.{fraction_from, with_fraction, with_decimal, with_values, with_offset, encoded, too_wide, hour_alone, ranged, judged, timestamp}
+use Rattle.timestamps.specs.Timestamp.{fields_from, fields_of}
+use Rattle.timestamps.specs.TimestampMeaning.{absent_fraction}
+use Rattle.timestamps.specs.Private.Reading.{magnitude_answer, measured}
+use Rattle.timestamps.specs.declared.timestamp.Offset.{Offset}
+use Rattle.timestamps.specs.declared.timestamp.Fields.{Fields}
+use Rattle.timestamps.proofs.Stamping.{Behind, fields_behind, none_behind, fraction_none}
+use Rattle.timestamps.proofs.FieldReading.{FieldsFound}
+
+-- where no bytes are left, there is no fraction
+pub fraction_absent : (descriptor : ℕ) (s : List ℕ) (end : ℕ) → end ≤ length s → gives absent_fraction ≡ and_then (decimal s end end) (λ d. measured descriptor (fraction_from s end end d))
+unfolding too_wide of_digits
+fraction_absent descriptor s end k = rw (none_behind s end k, part_none s end, le-ltb end end (omega arith))
+
+-- a magnitude that eight bytes hold, and one that they don't
+pub magnitude_held : (m k : ℕ) → magnitude_answer m ≡ Some k → (leb (256 ^ 8) m ≡ false) × (m ≡ k)
+unfolding magnitude_answer
+magnitude_held m k = by_test (λ a. a ≡ Some k → (leb (256 ^ 8) m ≡ false) × (m ≡ k)) (leb (256 ^ 8) m) (λ t e. cc) (λ t e. (t, cc))
+
+pub magnitude_long : (m : ℕ) → magnitude_answer m ≡ None → leb (256 ^ 8) m ≡ true
+unfolding magnitude_answer
+magnitude_long m = by_test (λ a. a ≡ None → leb (256 ^ 8) m ≡ true) (leb (256 ^ 8) m) (λ t e. t) (λ t e. cc)
+
+-- a decimal that was read, as a fraction: its coefficient is measured
+module _ (descriptor : ℕ) (s : List ℕ) (at end : ℕ) (d : Split) (h : decimal s at end ≡ gives d) where
+  abbrev digits : ℕ
+  digits = of_digits 256 (d.coefficient.first ∷ part s d.coefficient.rest d.coefficient.end)
+
+  pub fraction_held : (c : ℕ) → at < end → magnitude_answer digits ≡ Some c → gives (record { present = true; exponent_negative = d.exponent_negative; exponent = d.exponent; negative = d.coefficient.negative; coefficient = c }) ≡ and_then (decimal s at end) (λ d. measured descriptor (fraction_from s end at d))
+  unfolding too_wide
+  fraction_held c l m =
+      let q = magnitude_held digits c m in
+      rw (h, q.0, lt-ltb at end l, q.1)
+
+  pub fraction_long : magnitude_answer digits ≡ None → refuses 63 descriptor ≡ and_then (decimal s at end) (λ d. measured descriptor (fraction_from s end at d))
+  unfolding too_wide
+  fraction_long m = rw (h, magnitude_long digits m)
+
+-- where no hour stands alone, a measured fraction is judged by the ranges alone
+measured_judged : (descriptor : ℕ) (s : List ℕ) (at end : ℕ) (o : Offset) (f : Fields) (x : Outcome Split) → (f.count ≡ 4 → ⊥) → and_then (and_then x (λ d. measured descriptor (fraction_from s end at d))) (λ y. ranged descriptor (record { offset = o; fields = f; fraction = y })) ≡ and_then (and_then x (with_fraction s end at o f)) (judged descriptor)
+unfolding with_fraction judged hour_alone
+measured_judged descriptor s at end o f (gives d) n =
+    rw (ne_eqb f.count 4 n)
+    (refuse_first (too_wide (fraction_from s end at d)) 63 descriptor (gives (fraction_from s end at d)) (λ y. ranged descriptor (record { offset = o; fields = f; fraction = y })))
+measured_judged descriptor s at end o f (refuses n p) k = refl
+
+module _ (descriptor : ℕ) (s : List ℕ) (start end : ℕ) (i : Signed) (h : var_int s start end ≡ gives i) (f : Fields) (at : ℕ) (r : FieldsFound (fields_from 6 s end i.next) f at) where
+  abbrev offset : Offset
+  offset = record { negative = i.negative; minutes = i.magnitude }
+
+  pub behind : Behind s end (record { values = r.values; next = at })
+  behind =
+      let n = var_int_at s start end h in
+      fields_behind s end i.next (record { values = r.values; next = at })
+      (omega (arith, ap (λ (x : Signed). x.next) n.is, n.number.ends)) n.number.within r.is
+
+  pub within : end ≤ length s
+  within = (var_int_at s start end h).number.within
+
+  count_is : f.count ≡ length r.values
+  unfolding fields_of
+  count_is = ap (λ (x : Fields). x.count) r.fields
+
+  decided : timestamp descriptor s start end ≡ and_then (with_decimal s end at offset f) (judged descriptor)
+  unfolding timestamp encoded with_offset with_values
+  decided = rw (h, r.is, ← r.fields)
+
+  -- an hour stands alone, and behind it there is nothing
+  pub hour_found : f.count ≡ 4 → refuses 61 descriptor ≡ timestamp descriptor s start end
+  unfolding judged hour_alone
+  hour_found e =
+      let q : at ≡ end = by_case (ltb at end) (λ t. absurd (let x = behind.all (ltb-true at end t) in omega (arith, count_is))) (λ t. let x = ltb-false at end t in omega (arith, behind.ends)) in
+      sym (decided ∙ rw (q, fraction_none s end offset f within, eq-eqb f.count 4 e))
+
+  -- else the fraction decides, and then the ranges do
+  pub fraction_found : (f.count ≡ 4 → ⊥) → and_then (and_then (decimal s at end) (λ d. measured descriptor (fraction_from s end at d))) (λ y. ranged descriptor (record { offset = offset; fields = f; fraction = y })) ≡ timestamp descriptor s start end
+  unfolding with_decimal
+  fraction_found n = measured_judged descriptor s at end offset f (decimal s at end) n ∙ sym decided
