@@ -13,6 +13,7 @@ const LONG: usize = 14;
 pub fn var_uint_size(n: usize) -> usize
     ensures { result ≡ var_uint_size n }
 {
+    // A cast, here and below: std has no `From` for these types, and each is proved to lose nothing.
     n.max(1).ilog(128) as usize + 1
 }
 
@@ -46,6 +47,7 @@ pub fn put_byte(out: &mut [u8], at: usize, byte: u8)
 }
 
 // Puts all bytes of another slice.
+#[tactic(auto, using(crate::proofs::Stores::sets_out, crate::proofs::Stores::bytes_stored, crate::proofs::Stores::bytes_over))]
 pub fn put_bytes(out: &mut [u8], at: usize, from: &[u8])
     ensures { out.new ≡ sets out.old at from.now }
 {
@@ -60,18 +62,18 @@ pub fn put_bytes(out: &mut [u8], at: usize, from: &[u8])
 }
 
 // Puts a VarUInt of `n` in k + 1 bytes.
+#[tactic(auto, using(crate::proofs::Stores::sets_out, crate::proofs::Stores::digits_stored, crate::proofs::Stores::digits_over))]
 pub fn put_var_uint_in(out: &mut [u8], at: usize, k: usize, n: usize)
     ensures { out.new ≡ sets out.old at (var_uint_in k n) }
 {
-    let mut to = at;
-    for left in (0..k).rev() {
-        if out.len() <= to {
-            return;
-        }
-        out[to] = digit(n, left + 1) as u8;
-        to += 1;
+    if out.len() <= at {
+        return;
     }
-    put_byte(out, to, (128 + n % 128) as u8);
+    let most = k.min(out.len() - at);
+    for i in 0..most {
+        out[at + i] = digit(n, k - i) as u8;
+    }
+    put_byte(out, at + most, (128 + n % 128) as u8);
 }
 
 // Puts a VarUInt in the fewest bytes.
@@ -83,6 +85,7 @@ pub fn put_var_uint(out: &mut [u8], at: usize, n: usize)
 }
 
 // Puts the descriptor of the type of `byte`, and the length field of `n` bytes.
+#[tactic(auto, using(crate::proofs::Stores::sets_out, crate::proofs::Stores::short_stored, crate::proofs::Stores::long_stored))]
 pub fn put_head(out: &mut [u8], at: usize, byte: u8, n: usize)
     ensures { out.new ≡ sets out.old at (head_bytes (byte / 16) n) }
 {
