@@ -17,7 +17,7 @@ use Rattle.stepping.specs.declared.cursor.Rules.TheVariants.{Stream}
 use Rattle.stepping.proofs.Places.{ValueIn, ItemIn, a_marker, a_value, a_field}
 use Rattle.stepping.proofs.Moves.{Moves, ends, hands, stops, moves}
 use Rattle.walking.specs.Walk.{limits_out, parts as most_parts, Visit, visit, behind, following, whole_walk}
-use Rattle.walking.specs.Calls.{no_part, start_of, end_at, rules_at, or_above, seek, moved_to, state_after_value, state_after_visit, visit_of, calls, state_after}
+use Rattle.walking.specs.Calls.{no_part, start_of, end_at, rules_at, or_above, seek, moved_to, state_after_value, state_after_visit, visit_of, calls, state_after, items_in}
 use Rattle.stepping.specs.Leaving.{is_last}
 use Rattle.values.specs.Scalars.{is_container, body_rules, type_of}
 use Rattle.walking.specs.Private.State.{rules_by}
@@ -254,3 +254,14 @@ pub never_outside : NeverOutside
 never_outside limit deepest s n p =
     by_case (limits_out limit deepest) (λ g. refused_other limit deepest s (state_after limit deepest n s (start_of s)) g p) (λ g.
     (next limit deepest s g (state_after limit deepest n s (start_of s)) (fit_after limit deepest s g n (start_of s) (start_fit limit deepest s g))).other p)
+
+-- the items counted from the start; none where a limit is none
+pub counted : (limit deepest : ℕ) (s : List ℕ) (n : ℕ) → items_in (calls limit deepest n s (start_of s)) ≡ items_in (take n (whole_walk limit deepest s))
+counted limit deepest s n = ap items_in (exact limit deepest s n)
+
+pub uncounted : (limit deepest : ℕ) (s : List ℕ) → limits_out limit deepest ≡ true → (n : ℕ) → items_in (take n (whole_walk limit deepest s)) ≡ 0
+unfolding whole_walk
+uncounted limit deepest s g zero = refl
+uncounted limit deepest s g (suc n) = rw g
+
+pub ruleset from_start = (counted, uncounted)

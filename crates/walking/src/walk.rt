@@ -33,7 +33,8 @@ pub struct Part {
     pub fields: bool,
 }
 
-// Where a walk is: the parts that it is in, by depth; its depth and its position. `deep`: the container at the position was handed out and is too deep to enter.
+// Where a walk is: the parts that it is in, by depth; its depth and its position. `deep`: the container at the position was handed out and is too deep to
+// enter. The parts are an array of a fixed length: there is no heap.
 #[derive(Clone, Copy)]
 pub struct Walk {
     pub parts: [Part; PARTS],
@@ -68,13 +69,14 @@ struct Seen {
 
 // The two limits of a call, each in its range.
 #[derive(Clone, Copy)]
-struct Limits {
-    bytes: usize,
-    depth: usize,
-    ghost in_range: { limits_out bytes depth ≡ false },
+pub struct Limits {
+    pub bytes: usize,
+    pub depth: usize,
+    pub ghost in_range: { limits_out bytes depth ≡ false },
 }
 
 // Whether one of a walk's two limits is none.
+#[tactic(auto, using(std::proofs::lemmas::Bool::Decides::nat_tests), unfolding(crate::specs::Walk::limits_out))]
 pub fn limits_out(limit: usize, deepest: usize) -> bool
     ensures { result ≡ limits_out limit deepest }
 {
@@ -86,7 +88,7 @@ pub fn limits_out(limit: usize, deepest: usize) -> bool
 
 impl Limits {
     // None where one of the two is none.
-    fn new(limit: usize, deepest: usize) -> Option<Limits>
+    pub fn new(limit: usize, deepest: usize) -> Option<Limits>
         ensures { MatchOption result (limits_out limit deepest ≡ true) (λ l. (l.bytes ≡ limit) × (l.depth ≡ deepest)) }
     {
         if limits_out(limit, deepest) {
@@ -135,6 +137,7 @@ fn refused(depth: usize, reason: Reason, position: usize) -> Seen
 }
 
 // How many items at most `most` calls of a map's walk hand out from its start: 0 where a limit is none.
+#[tactic(auto, using(crate::proofs::Exact::from_start))]
 pub fn count_items(s: &[u8], most: u64, limit: usize, deepest: usize) -> u64
     ensures { result ≡ items_in (take most (whole_walk limit deepest s.now)) }
 {
@@ -164,6 +167,7 @@ impl Walk {
     }
 
     // The next answer of the walk.
+    #[tactic(auto, using(crate::proofs::Seeking::visit_unranged, crate::proofs::Seeking::visit_depth))]
     pub fn next(self, s: &[u8], limit: usize, deepest: usize) -> Walked
         ensures { walked_read result ≡ next_of limit deepest s.now self }
     {
@@ -187,7 +191,7 @@ impl Walk {
     }
 
     // The answer at the walk's place.
-    #[tactic(auto, using(crate::proofs::Depths::depth_room))]
+    #[tactic(auto, using(std::proofs::lemmas::Bool::Decides::nat_tests, crate::proofs::Depths::depth_room), unfolding(crate::specs::Calls::visit_of, crate::specs::Calls::barred))]
     fn look(&self, s: &[u8], limits: Limits) -> Seen
         ensures { seen_read result ≡ visit_of limits.bytes limits.depth s.now self.now }
     {
@@ -204,26 +208,22 @@ impl Walk {
     }
 
     // The next answer from the walk's place on, in the parts above where its part ends.
+    #[tactic(auto, using(crate::proofs::Seeking::sought))]
     fn find(&self, s: &[u8], limit: usize) -> Seen
         requires { self.now.depth ≤ most_depth }
         ensures { seen_read result ≡ seek limit s.now self.now self.now.depth self.now.at }
     {
-        let mut depth = self.depth;
         let mut at = self.at;
-        while depth > 0 {
+        for depth in (1..=self.depth).rev() {
             let part = self.parts[depth];
             let step = item_at(rules_at(depth, part.fields), s, at, part.end, limit);
-            let Ok(item) = step else {
+            let Ok(Item::End { position }) = step else {
                 return Seen { depth, item: step };
             };
-            let Item::End { position } = item else {
-                return Seen { depth, item: step };
-            };
-            depth -= 1;
             at = position;
         }
         let item = item_at(Rules::Stream, s, at, self.parts[0].end, limit);
-        Seen { depth, item }
+        Seen { depth: 0, item }
     }
 
     // The place behind a value that was handed out at this depth: in its body, if it is a container.
@@ -281,7 +281,8 @@ impl Walk {
         self.deep = place.deep;
     }
 
-    // How many items at most `most` calls hand out from the walk's place on.
+    // How many items at most `most` calls hand out from the walk's place on. In one piece: a turn ends the count, goes on without an item, or hands one out. A
+    // function for a turn would answer one of the three, and the loop would test it again.
     #[tactic(auto, using(crate::proofs::Depths::depth_room))]
     fn count(&mut self, s: &[u8], most: u64, limits: Limits) -> u64
         ensures { result ≡ items_in (calls limits.bytes limits.depth most s.now self.old) }

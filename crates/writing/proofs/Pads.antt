@@ -19,6 +19,7 @@ use Rattle.numbers.proofs.Outcomes.{by_test, by_case}
 use Rattle.encoding.specs.Fields.{var_uint_in, fewest, var_uint_size}
 use Rattle.encoding.proofs.VarUInts.{var_uint_written, fewest_low, size_least, size_enough}
 use Rattle.encoding.proofs.Stores.{sets_more}
+use Rattle.writing.proofs.Lengths.{stored}
 use Rattle.writing.specs.Things.{pad_field, pad_head, pad_bytes}
 use Rattle.writing.specs.Answers.{no_pad}
 
@@ -151,3 +152,13 @@ pad_stored old filled size field t e room l h =
     ∙ sym (sets-eq filled head (1 + field) (omega arith))
     ∙ ap (sets head (1 + field)) z
     ∙ sym (sets_more old 0 (pad_head size) (replicate (size - 1 - pad_field size) 0) ∙ ap (λ (j : ℕ). sets head j (replicate (size - 1 - pad_field size) 0)) k ∙ ap (λ (j : ℕ). sets head (1 + field) (replicate j 0)) m)
+
+-- ---- what each function's goals take
+
+pub ruleset fields = (pad_none, pad_past, pad_told, field_none, field_from, field_hit, field_on, field_end)
+
+pub ruleset heads = (pad_some, pad_few, field_some, head_short, head_long)
+
+pub ruleset puts = (pad_few, field_small)
+
+pub ruleset stores = (pad_length, stored)

@@ -1,16 +1,13 @@
 -- `count` meets its contract: each return has counted all that there is, and each turn keeps what is counted.
-use Prim.Native.Nat.{ℕ, ◌+◌, ◌-◌, ◌≤◌, ◌<◌}
+use Prim.Native.Nat.{◌+◌, ◌-◌, ◌≤◌}
 use native.Mathlib.Omega.{arith}
 use mathlib.Core.Path.{◌≡◌, ◌∙◌, sym, ap}
-use mathlib.Core.Bool.{false}
 use lib.ListN.{get_or}
-use Rattle.numbers.specs.Outcome.{Outcome, gives, outside_of}
+use Rattle.numbers.specs.Outcome.{Outcome, gives}
 use Rattle.numbers.specs.Answers.{Unsigned}
 use Rattle.numbers.proofs.Outcomes.{inside_end}
-use Rattle.framing.specs.Spans.{Spans}
-use Rattle.framing.specs.Answers.{read_value}
 use Rattle.framing.specs.Read.{spans_of, short_value_read}
-use Rattle.framing.specs.ShortValue.{short_value, bare_spans, short_value_of}
+use Rattle.framing.specs.ShortValue.{short_value}
 use Rattle.framing.proofs.ShortValues.{short_bounds}
 use Rattle.stepping.specs.Items.{Item, finish}
 use Rattle.stepping.specs.Names.{name_at, item_by}
