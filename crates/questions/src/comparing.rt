@@ -27,7 +27,7 @@ impl Tally {
 }
 
 // Whether a word is the one expected. A `?` stands for any word.
-fn same_word(expected: &str, word: &str) -> bool {
+fn is_expected(expected: &str, word: &str) -> bool {
     if expected == "?" {
         !word.is_empty()
     } else {
@@ -42,7 +42,7 @@ fn agrees(expected: &str, answer: &str) -> bool {
         let Some(word) = words.next() else {
             return false;
         };
-        if !same_word(wanted, word) {
+        if !is_expected(wanted, word) {
             return false;
         }
     }

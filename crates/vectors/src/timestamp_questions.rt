@@ -1,6 +1,6 @@
 // The answers to questions on timestamps' bodies.
 use crate::answering::{Answer, Part, sign};
-use std::alloc::Global;
+use questions::words::Words;
 use std::fmt;
 use timestamps::timestamp::{Stamp, read_timestamp};
 
@@ -53,9 +53,10 @@ impl fmt::Display for Attoseconds {
 }
 
 // `timestamp BYTES START END DESCRIPTOR`: how far it goes, the offset and the fields, sign and magnitude of the fraction's exponent, and its coefficient.
-pub fn timestamp(alloc: Global, part: Part, descriptor: usize) -> Answer {
+pub fn timestamp(part: Part, words: &mut Words) -> Answer {
+    let descriptor = words.number();
     let t = read_timestamp(part.s, part.at, part.end, descriptor)?;
-    Ok(format!(in alloc;
+    Ok(format!(in words.alloc;
         "{} {} {} {} {}",
         t.precision,
         Fields(t),
@@ -66,7 +67,7 @@ pub fn timestamp(alloc: Global, part: Part, descriptor: usize) -> Answer {
 }
 
 // `instant BYTES START END`: how far it goes, a fraction as a second, the offset and the fields, and the fraction by its value.
-pub fn instant(alloc: Global, part: Part) -> Answer {
+pub fn instant(part: Part, words: &mut Words) -> Answer {
     let t = read_timestamp(part.s, part.at, part.end, 0)?;
-    Ok(format!(in alloc; "{} {} {}", t.precision.min(5), Fields(t), Attoseconds(t))?)
+    Ok(format!(in words.alloc; "{} {} {}", t.precision.min(5), Fields(t), Attoseconds(t))?)
 }

@@ -1,0 +1,31 @@
+// The buffers that are lent to a call, and what is said of it: what it returned, and what it left in them.
+use crate::arguments::buffer;
+use crate::left::Left;
+use questions::hexadecimal::Hexadecimal;
+use questions::words::Words;
+use std::alloc::AllocError;
+
+pub type Said = Result<String, AllocError>;
+
+// Lends a call the buffer for its record.
+pub fn lend<F>(words: &mut Words, call: F) -> Said
+where
+    F: FnOnce(&mut [u8], &mut Words) -> Result<u64, AllocError> + Drop,
+    requires { F.IsAlwaysCallable call }
+{
+    let mut out = buffer(words)?;
+    let returned = call(&mut out, words)?;
+    format!(in words.alloc; "{returned}{}", Left(&out))
+}
+
+// Lends it the one for what it writes too.
+pub fn lend_both<F>(words: &mut Words, call: F) -> Said
+where
+    F: FnOnce(&mut [u8], &mut [u8], &mut Words) -> Result<u64, AllocError> + Drop,
+    requires { F.IsAlwaysCallable call }
+{
+    let mut out = buffer(words)?;
+    let mut to = buffer(words)?;
+    let returned = call(&mut to, &mut out, words)?;
+    format!(in words.alloc; "{returned} : {}{}", Hexadecimal(&to), Left(&out))
+}
