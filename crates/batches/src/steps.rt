@@ -13,7 +13,7 @@ use records::words::refused_words;
 use std::ops::ControlFlow;
 use stepping::cursor::Rules;
 
-// How many records were put, and the number of the last answer.
+// How many records were put, and the number of the last answer. Both are returned to C: the count is no flag.
 #[derive(Clone, Copy)]
 struct Steps {
     count: usize,
@@ -80,6 +80,7 @@ pub fn ion_map_steps(
     match part_rules(map, start, end, position, kind, limit) {
         Ok(rules) => {
             let steps = put_steps(rules, map, position, end, limit, out);
+            // `as`: std has no `From` of a `usize` for a `u64`.
             *count = steps.count as u64;
             steps.number
         }

@@ -38,6 +38,7 @@ fn annotation_at(
     read_annotation(map, position, end)
 }
 
+#[tactic(auto, using(crate::proofs::Returned::annotation_returned))]
 pub fn ion_map_annotation(
     map: &[u8],
     start: usize,
@@ -71,6 +72,7 @@ fn body_at(
     }
 }
 
+#[tactic(auto, using(crate::proofs::Returned::body_returned))]
 pub fn ion_map_step_in(
     map: &[u8],
     start: usize,
@@ -85,7 +87,8 @@ pub fn ion_map_step_in(
     put_record(out, body_at(map, start, end, position, limit))
 }
 
-// Reads the value at `position` of the part start..end.
+// Reads the value at `position` of the part start..end. This and the step above share their parameters, which are C's, and no line of what they do; by
+// `map_or_else` in place of each `match` the proof did not close.
 fn scalar_at(
     map: &[u8],
     start: usize,
@@ -101,6 +104,7 @@ fn scalar_at(
     }
 }
 
+#[tactic(auto, using(crate::proofs::Returned::reading_returned))]
 pub fn ion_map_scalar(
     map: &[u8],
     start: usize,
@@ -115,7 +119,7 @@ pub fn ion_map_scalar(
     put_record(out, scalar_at(map, start, end, position, limit))
 }
 
-// A number by its form.
+// A number by its form, which C says as a number, so that no closure can stand in its place.
 #[tactic(auto, unfolding(crate::specs::Exported::number_by))]
 fn number_by(
     map: &[u8],
@@ -150,6 +154,7 @@ fn number_at(
     }
 }
 
+#[tactic(auto, using(crate::proofs::Returned::number_returned))]
 pub fn ion_map_number(
     map: &[u8],
     start: usize,
