@@ -42,7 +42,7 @@ use Rattle.stepping.specs.declared.cursor.Item.TheVariants.{End, Marker, Value, 
 use Rattle.stepping.specs.declared.cursor.Step.{Step}
 use Rattle.runs.proofs.Machine as machine
 use Rattle.runs.proofs.Machine.{Answered}
-use Rattle.runs.proofs.Values.{num, parts, nth, choose, read_result}
+use Rattle.runs.proofs.Values.{num, parts, nth, choose, read_result, one_by}
 use Rattle.runs.proofs.Results.{one, other, differ, made as made_result, made_read as made_result_read, known as known_result}
 use Rattle.stepping.proofs.Tiling.{tiling}
 use Rattle.runs.proofs.Overwriting.{overwriting}
@@ -78,6 +78,7 @@ read_step : Val → Step
 read_step v =
     record { item = read_result read-item (nth 0 (parts v)); next = cursor (num (nth 0 (parts (nth 1 (parts v))))) (num (nth 1 (parts (nth 1 (parts v))))) }
 
+-- case by case: the machine's value of a reason inside a step is no term that `refusal_back` speaks of
 refused_back : (r : Reason) (p : ℕ) (n : Cursor) → let x : Step = record { item = Err (record { reason = r; position = p }); next = n } in read_step (lowered x) ≡ x
 unfolding read-value read-item read_step
 refused_back NoValueLeft p n = refl
@@ -133,7 +134,7 @@ read_back (Ok (Field i a v)) n = refl
 read_back (Err e) n = refused_back e.reason e.position n
 
 one_value : (x y : Step) → lowered x ≡ lowered y → x ≡ y
-one_value x y e = sym (read_back x.item x.next) ∙ ap read_step e ∙ read_back y.item y.next
+one_value = one_by lowered read_step (λ x. read_back x.item x.next)
 
 -- the step that has a given answer
 value_of : Spans → EncodedValue
