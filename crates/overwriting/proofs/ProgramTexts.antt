@@ -31,7 +31,7 @@ use Rattle.runs.proofs.Machine as machine
 use Rattle.runs.proofs.Machine.{Answered}
 use Rattle.runs.proofs.Values.{num, field, choose, read_result, read_option, refusal_back, one_by}
 use Rattle.runs.proofs.Entries.{read_span, span}
-use Rattle.runs.proofs.Results.{one, other, differ, made, made_read, known}
+use Rattle.runs.proofs.Results.{told_by}
 use Rattle.overwriting.specs.ProgramTexts.{list_lowers, text_lowers, HasLookups, Lists, Texts, ProgramTextsStay}
 use Rattle.overwriting.proofs.TextsStay.{texts-stay}
 
@@ -100,15 +100,13 @@ module _ {M : Type 1} {𝓤 : Ura M} (𝓛 : Logic 𝓤) (𝓜 : Model 𝓤 𝓛
 
   list_answers : (limit : ℕ) (s lent : Bor (List ℕ)) (lo hi place : ℕ) → Answered 𝓛 𝓜 listing.signature (𝓡.env listing-symbol.name) κs tt (list_lowers κs) (s, (lent, (lo, (hi, (place, (limit, tt)))))) (λ x. symbols_read x ≡ symbols_at limit s.now lent.now lo hi place)
   list_answers limit s lent lo hi place =
-      machine.answered 𝓛 𝓜 𝓡 listing.ended (𝓡.env listing-symbol.name) (listing.clauses 𝓛 𝓜.mem 𝓡.returns) (listing-met.met 𝓤 𝓛 𝓜 (strict 𝓤 H 𝓜 𝓡) has.list) κs tt (list_lowers κs) symbols_read (made own_read own_of own_told own_back) (made_read own_read own_of own_told own_back) (one_by (list_lowers κs).lowered read_list (list_back κs)) (Err one) (Err other) differ
+      machine.answered 𝓛 𝓜 𝓡 listing.ended (𝓡.env listing-symbol.name) (listing.clauses 𝓛 𝓜.mem 𝓡.returns) (listing-met.met 𝓤 𝓛 𝓜 (strict 𝓤 H 𝓜 𝓡) has.list) κs tt (list_lowers κs) (told_by own_read own_of own_told own_back) (one_by (list_lowers κs).lowered read_list (list_back κs))
       (s, (lent, (lo, (hi, (place, (limit, tt)))))) tt (symbols_at limit s.now lent.now lo hi place) (id⊢ 𝓤 (emp 𝓤)) (λ x ws. id⊢ 𝓤 (fact 𝓤 (symbols_read x ≡ symbols_at limit s.now lent.now lo hi place)))
-      (known own_read own_of own_told own_back (symbols_at limit s.now lent.now lo hi place))
 
   text_answers : (limit : ℕ) (s lent : Bor (List ℕ)) (lo hi place id : ℕ) → Answered 𝓛 𝓜 texting.signature (𝓡.env texting-symbol.name) κs tt (text_lowers κs) (s, (lent, (lo, (hi, (place, (id, (limit, tt))))))) (λ x. text_read x ≡ text_of limit s.now lent.now lo hi place id)
   text_answers limit s lent lo hi place id =
-      machine.answered 𝓛 𝓜 𝓡 texting.ended (𝓡.env texting-symbol.name) (texting.clauses 𝓛 𝓜.mem 𝓡.returns) (texting-met.met 𝓤 𝓛 𝓜 (strict 𝓤 H 𝓜 𝓡) has.text) κs tt (text_lowers κs) text_read (made text_told text-of text_is text-back) (made_read text_told text-of text_is text-back) (one_by (text_lowers κs).lowered (read_result read_text) (texting_back κs)) (Err one) (Err other) differ
+      machine.answered 𝓛 𝓜 𝓡 texting.ended (𝓡.env texting-symbol.name) (texting.clauses 𝓛 𝓜.mem 𝓡.returns) (texting-met.met 𝓤 𝓛 𝓜 (strict 𝓤 H 𝓜 𝓡) has.text) κs tt (text_lowers κs) (told_by text_told text-of text_is text-back) (one_by (text_lowers κs).lowered (read_result read_text) (texting_back κs))
       (s, (lent, (lo, (hi, (place, (id, (limit, tt))))))) tt (text_of limit s.now lent.now lo hi place id) (id⊢ 𝓤 (emp 𝓤)) (λ x ws. id⊢ 𝓤 (fact 𝓤 (text_read x ≡ text_of limit s.now lent.now lo hi place id)))
-      (known text_told text-of text_is text-back (text_of limit s.now lent.now lo hi place id))
 
   list_by : (limit : ℕ) (s lent : Bor (List ℕ)) (lo hi place : ℕ) (o : Outcome Own) → Lists 𝓛 𝓜 𝓡.env κs limit s lent lo hi place o → o ≡ symbols_at limit s.now lent.now lo hi place
   list_by limit s lent lo hi place o p = sym p.2 ∙ (list_answers limit s lent lo hi place).returned p.0 p.1

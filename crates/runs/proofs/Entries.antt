@@ -43,7 +43,7 @@ use Rattle.runs.specs.Program.{annotation_lowers, body_lowers, scalar_lowers, Ha
 use Rattle.runs.proofs.Machine as machine
 use Rattle.runs.proofs.Machine.{Answered}
 use Rattle.runs.proofs.Values.{num, bit, field, choose, read_result, read_option, refusal_back, one_by}
-use Rattle.runs.proofs.Results.{one, other, differ, made, made_read, known}
+use Rattle.runs.proofs.Results.{told_by}
 
 -- ---- annotations
 
@@ -187,21 +187,18 @@ module _ {M : Type 1} {𝓤 : Ura M} (𝓛 : Logic 𝓤) (𝓜 : Model 𝓤 𝓛
 
   pub annotation_answers : (s : Bor (List ℕ)) (at end : ℕ) → Answered 𝓛 𝓜 annotation.signature (𝓡.env annotation-symbol.name) κs tt (annotation_lowers κs) (s, (at, (end, tt))) (λ x. annotation_read x ≡ read_annotation s.now at end)
   annotation_answers s at end =
-      machine.answered 𝓛 𝓜 𝓡 annotation.ended (𝓡.env annotation-symbol.name) (annotation.clauses 𝓛 𝓜.mem 𝓡.returns) (annotation-met.met 𝓤 𝓛 𝓜 (strict 𝓤 H 𝓜 𝓡) has.annotation) κs tt (annotation_lowers κs) annotation_read (made annotated_of id_of id_told id_back) (made_read annotated_of id_of id_told id_back) (one_by (annotation_lowers κs).lowered read-annotation (annotation_back κs)) (Err one) (Err other) differ
+      machine.answered 𝓛 𝓜 𝓡 annotation.ended (𝓡.env annotation-symbol.name) (annotation.clauses 𝓛 𝓜.mem 𝓡.returns) (annotation-met.met 𝓤 𝓛 𝓜 (strict 𝓤 H 𝓜 𝓡) has.annotation) κs tt (annotation_lowers κs) (told_by annotated_of id_of id_told id_back) (one_by (annotation_lowers κs).lowered read-annotation (annotation_back κs))
       (s, (at, (end, tt))) tt (read_annotation s.now at end) (id⊢ 𝓤 (emp 𝓤)) (λ x ws. id⊢ 𝓤 (fact 𝓤 (annotation_read x ≡ read_annotation s.now at end)))
-      (known annotated_of id_of id_told id_back (read_annotation s.now at end))
 
   pub entering_answers : (limit : ℕ) (s : Bor (List ℕ)) (lo hi at : ℕ) → Answered 𝓛 𝓜 entering.signature (𝓡.env entering-symbol.name) κs tt (body_lowers κs) (s, (lo, (hi, (at, (limit, tt))))) (λ x. body_read x ≡ step_in limit s.now lo hi at)
   entering_answers limit s lo hi at =
-      machine.answered 𝓛 𝓜 𝓡 entering.ended (𝓡.env entering-symbol.name) (entering.clauses 𝓛 𝓜.mem 𝓡.returns) (entering-met.met 𝓤 𝓛 𝓜 (strict 𝓤 H 𝓜 𝓡) has.entering) κs tt (body_lowers κs) body_read (made opened_of body_of body_told body-back) (made_read opened_of body_of body_told body-back) (one_by (body_lowers κs).lowered (read_result read_body) (body_back κs)) (Err one) (Err other) differ
+      machine.answered 𝓛 𝓜 𝓡 entering.ended (𝓡.env entering-symbol.name) (entering.clauses 𝓛 𝓜.mem 𝓡.returns) (entering-met.met 𝓤 𝓛 𝓜 (strict 𝓤 H 𝓜 𝓡) has.entering) κs tt (body_lowers κs) (told_by opened_of body_of body_told body-back) (one_by (body_lowers κs).lowered (read_result read_body) (body_back κs))
       (s, (lo, (hi, (at, (limit, tt))))) tt (step_in limit s.now lo hi at) (id⊢ 𝓤 (emp 𝓤)) (λ x ws. id⊢ 𝓤 (fact 𝓤 (body_read x ≡ step_in limit s.now lo hi at)))
-      (known opened_of body_of body_told body-back (step_in limit s.now lo hi at))
 
   pub reading_answers : (limit : ℕ) (s : Bor (List ℕ)) (lo hi at : ℕ) → Answered 𝓛 𝓜 reading.signature (𝓡.env reading-symbol.name) κs tt (scalar_lowers κs) (s, (lo, (hi, (at, (limit, tt))))) (λ x. scalar_read x ≡ read_scalar limit s.now lo hi at)
   reading_answers limit s lo hi at =
-      machine.answered 𝓛 𝓜 𝓡 reading.ended (𝓡.env reading-symbol.name) (reading.clauses 𝓛 𝓜.mem 𝓡.returns) (reading-met.met 𝓤 𝓛 𝓜 (strict 𝓤 H 𝓜 𝓡) has.reading) κs tt (scalar_lowers κs) scalar_read (made scalar_told scalar-of scalar_told_lem scalar_of_lem) (made_read scalar_told scalar-of scalar_told_lem scalar_of_lem) (one_by (scalar_lowers κs).lowered (read_result read-scalar) (reading_back κs)) (Err one) (Err other) differ
+      machine.answered 𝓛 𝓜 𝓡 reading.ended (𝓡.env reading-symbol.name) (reading.clauses 𝓛 𝓜.mem 𝓡.returns) (reading-met.met 𝓤 𝓛 𝓜 (strict 𝓤 H 𝓜 𝓡) has.reading) κs tt (scalar_lowers κs) (told_by scalar_told scalar-of scalar_told_lem scalar_of_lem) (one_by (scalar_lowers κs).lowered (read_result read-scalar) (reading_back κs))
       (s, (lo, (hi, (at, (limit, tt))))) tt (read_scalar limit s.now lo hi at) (id⊢ 𝓤 (emp 𝓤)) (λ x ws. id⊢ 𝓤 (fact 𝓤 (scalar_read x ≡ read_scalar limit s.now lo hi at)))
-      (known scalar_told scalar-of scalar_told_lem scalar_of_lem (read_scalar limit s.now lo hi at))
 
   pub annotates : (s : Bor (List ℕ)) (end at : ℕ) (o : Outcome Annotated) → Annotates 𝓛 𝓜 𝓡.env κs s end at o → o ≡ read_annotation s.now at end
   annotates s end at o p = sym p.2 ∙ (annotation_answers s at end).returned p.0 p.1
