@@ -58,7 +58,9 @@ fn put_steps(
     }
 }
 
-// As many steps as `out` has room for, one record after the other, up to an end or a refusal. `count` is how many records were put.
+// As many steps as `out` has room for, one record after the other, up to an end or a refusal. `count` is how many records were put. Whether there is room for
+// one is tested here first, since the count is 0 then.
+#[tactic(auto, using(std::proofs::lemmas::Bool::Decides::nat_tests), unfolding(crate::specs::Steps::returned_last, crate::specs::Steps::records_in, crate::specs::Steps::count_in))]
 pub fn ion_map_steps(
     map: &[u8],
     start: usize,

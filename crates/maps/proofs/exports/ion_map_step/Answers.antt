@@ -1,11 +1,10 @@
 -- `ion_map_step` meets its contract: 51 before anything else, then what the part's rules refuse, and else the step by these rules.
-use borrow.Author.Tests.{lt-ltb}
 use mathlib.Core.Path.{◌≡◌, ◌∙◌, sym, ap}
 use Rattle.numbers.specs.Outcome.{Outcome}
 use Rattle.numbers.specs.Read.{outcome}
 use Rattle.stepping.specs.Answers.{answer_at}
 use Rattle.stepping.specs.declared.cursor.Rules.{Rules}
-use Rattle.records.specs.Buffer.{record_in, answered, words_in}
+use Rattle.records.specs.Buffer.{record_in, answered}
 use Rattle.records.specs.Words.{words}
 use Rattle.records.proofs.Numbers.{put_answer, step_number}
 use Rattle.maps.specs.Exported.{exported_step}
@@ -26,11 +25,6 @@ stepped c =
     let g = rules_given c in
     ap (λ (r : Rules). answer_at a.limit r a.map.now a.position a.end) g.rules_is
     ∙ sym (step_is a.limit a.map.now a.start a.end a.position a.kind g.within.low g.within.kind_is)
-
-pub returns-then-out-lt-RECORD_SIZE : goal.returns-then-out-lt-RECORD_SIZE
-unfolding answered words_in
-returns-then-out-lt-RECORD_SIZE c =
-    let e = lt-ltb _ _ c.if-out-lt-RECORD_SIZE.true in record { value = rw e c.number.ensures; out_after = rw e }
 
 pub returns-in-Continue : goal.returns-in-Continue
 returns-in-Continue c =

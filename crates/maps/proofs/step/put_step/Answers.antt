@@ -21,7 +21,7 @@ use Rattle.records.proofs.BareWords.{bare-words}
 use Rattle.numbers.proofs.Outcomes.{in_part}
 use Rattle.maps.specs.Put.{put_by}
 use Rattle.maps.proofs.Putting.{value_leaves, put_at, put_over}
-use Rattle.maps.proofs.Refused.{unlimited, apart}
+use Rattle.maps.proofs.Within.{refused_unranged, refused_outside}
 use Rattle.maps.proofs.step.put_step.Goals as goal
 use Rattle.maps.proofs.step.put_step.Goals.{In-Ok, In-Some}
 
@@ -49,12 +49,12 @@ short b =
 pub returns-then-out_of_range : goal.returns-then-out_of_range
 returns-then-out_of_range c =
     let a = c.args in
-    put_over a.out.now (unlimited a.limit a.rules a.map.now a.at a.end (sym c.out_of_range.ensures ∙ c.if-out_of_range.true)) c.refused_words.ensures c.put_record.ensures refl
+    put_over a.out.now (sym (refused_unranged a.limit a.rules a.map.now a.at a.end (sym c.out_of_range.ensures ∙ c.if-out_of_range.true))) c.refused_words.ensures c.put_record.ensures refl
 
 pub returns-then-outside : goal.returns-then-outside
 returns-then-outside c =
     let a = c.args in
-    put_over a.out.now (apart a.limit a.rules a.map.now a.at a.end (sym c.out_of_range.ensures ∙ c.if-out_of_range.false) (sym c.outside.ensures ∙ c.if-outside.true)) c.refused_words-then-outside.ensures c.put_record-then-outside.ensures refl
+    put_over a.out.now (sym (refused_outside a.limit a.rules a.map.now a.at a.end (sym c.out_of_range.ensures ∙ c.if-out_of_range.false) (sym c.outside.ensures ∙ c.if-outside.true))) c.refused_words-then-outside.ensures c.put_record-then-outside.ensures refl
 
 pub returns-then-end-at : goal.returns-then-end-at
 returns-then-end-at c =
