@@ -1,4 +1,6 @@
 -- Definitions that only private functions' contracts cite: a reader of the crate needs none of them.
+pub mod Kinds
 pub mod Sizes
+pub mod Bytes
 pub mod Items
 pub mod Fronts

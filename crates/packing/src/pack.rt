@@ -4,23 +4,17 @@
 ghost use Rattle.std.specs.Prelude.{◌≡◌, [], ◌∷◌, ◌+◌, ◌-◌, ◌≤◌, length};
 ghost use Rattle.std.proofs.lemmas.List.Edits.{sets};
 ghost use Rattle.numbers.specs.Bytes.{part};
-ghost use Rattle.framing.specs.Read.{spans_of};
-ghost use Rattle.packing.specs.Tree.{header_of, written};
-ghost use Rattle.packing.specs.Packed.{head_of};
 ghost use Rattle.packing.specs.Answers.{pack_of, buffer_of};
 ghost use Rattle.packing.specs.Read.{size_read};
 ghost use Rattle.packing.specs.Private.Sizes.{wrap_size};
-ghost use Rattle.packing.specs.Private.Items.{bytes_at, value_bytes, PlacedAt, HandedOut, entry_size};
-ghost use Rattle.packing.specs.Private.Fronts.{wrap_front, front_of};
+ghost use Rattle.packing.specs.Private.Items.{part_bytes, entry_body, entry_bytes};
+ghost use Rattle.packing.specs.Private.Fronts.{wrap_front};
 
-use crate::size::{
-    Entry, MARKER, Met, ORDERED, body_rules, header_size, kept_byte, lengthless, meet, packed_size,
-    part_size,
-};
-use encoding::put::{head_size, put_byte, put_bytes, put_head, put_var_uint, var_uint_size};
+use crate::header::{header_size, kept_byte, put_header};
+use crate::part::{Entry, Met, Part};
+use crate::size::{MARKER, packed_size};
+use encoding::put::{head_size, put_bytes, put_head, put_var_uint, var_uint_size};
 use numbers::refusal::{Reason, Refusal};
-use stepping::cursor::Rules;
-use values::value::is_container;
 
 // The type of a wrapper.
 const WRAPPER: u8 = 0xE0;
@@ -33,138 +27,104 @@ fn put_marker(out: &mut [u8], to: usize, major: u8, minor: u8)
     put_bytes(out, to, &bytes);
 }
 
-// Puts a descriptor and the length of a body of `n` bytes.
-fn put_header(out: &mut [u8], to: usize, byte: u8, n: usize)
-    ensures { out.new ≡ sets out.old to (header_of byte n) }
-{
-    if lengthless(byte) {
-        put_byte(out, to, byte);
-        return;
-    }
-    if byte == ORDERED {
-        if out.len() <= to {
-            return;
+impl<'a> Entry<'a> {
+    // Puts what goes before a value of `n` bytes with its annotations: nothing where there are none. The position behind it.
+    #[tactic(auto, using(crate::proofs::Fronts::front_none, crate::proofs::Fronts::wrap_summed, crate::proofs::Fronts::wrap_stored, crate::proofs::Sizes::wrap_none, numbers::proofs::Parts::part_taken, numbers::proofs::Parts::part_length))]
+    fn put_wrap(self, out: &mut [u8], to: usize, n: usize) -> usize
+        requires { to + wrap_size (self.value.descriptor - self.value.annotations) n ≤ length out.old }
+        ensures out_after { out.new ≡ sets out.old to (wrap_front (part self.entry.s.now self.entry.value.annotations self.entry.value.descriptor) n) }
+        ensures n_value { result + n ≡ to + wrap_size (self.entry.value.descriptor - self.entry.value.annotations) n }
+    {
+        let start = self.value.annotations;
+        let end = self.value.descriptor;
+        let size = end - start;
+        if size == 0 {
+            return to;
         }
-        put_byte(out, to, byte);
-        put_var_uint(out, to + 1, n);
-        return;
+        let count = var_uint_size(size);
+        let wrapped = count + (size + n);
+        put_head(out, to, WRAPPER, wrapped);
+        let after = to + head_size(wrapped);
+        put_var_uint(out, after, size);
+        let annotations = after + count;
+        put_bytes(out, annotations, &self.s[start..end]);
+        annotations + size
     }
-    put_head(out, to, byte, n);
-}
 
-// Puts what goes before a value of `n` bytes whose annotations stand at start..end of the map: nothing where there are none. The position behind it.
-fn put_wrap(s: &[u8], out: &mut [u8], to: usize, start: usize, end: usize, n: usize) -> usize
-    requires { (start ≤ end) × (end ≤ length s.now) × (to + wrap_size (end - start) n ≤ length out.old) }
-    ensures out_after { out.new ≡ sets out.old to (wrap_front (part s.now start end) n) }
-    ensures n_value { result + n ≡ to + wrap_size (end - start) n }
-{
-    let size = end - start;
-    if size == 0 {
-        return to;
+    // Puts what goes before its body, of `n` bytes: its field ID, its annotations, its descriptor and its length. The position behind it.
+    #[tactic(auto, using(crate::proofs::Entries::entry_size, crate::proofs::Entries::entry_least, crate::proofs::Fronts::entry_stored, numbers::proofs::Parts::part_taken))]
+    fn put_front(self, out: &mut [u8], to: usize, n: usize) -> usize
+        requires { (n ≡ length (entry_body self)) × (to + length (entry_bytes self) ≤ length out.old) }
+        ensures out_after { sets out.new result (entry_body self.entry) ≡ sets out.old to (entry_bytes self.entry) }
+        ensures n_value { result + n ≡ to + length (entry_bytes self.entry) }
+    {
+        let value = self.value;
+        let byte = kept_byte(value.byte, n);
+        let header = header_size(byte, n);
+        let from = self.from;
+        let start = value.start;
+        put_bytes(out, to, &self.s[from..start]);
+        let named = to + (start - from);
+        let wrapped = self.put_wrap(out, named, header + n);
+        put_header(out, wrapped, byte, n);
+        wrapped + header
     }
-    let count = var_uint_size(size);
-    let wrapped = count + (size + n);
-    put_head(out, to, WRAPPER, wrapped);
-    let after = to + head_size(wrapped);
-    put_var_uint(out, after, size);
-    let annotations = after + count;
-    put_bytes(out, annotations, &s[start..end]);
-    annotations + size
-}
 
-// Puts what goes before the body, of `n` bytes, of a value: its field ID, its annotations, its descriptor and its length. The position behind it.
-fn put_front(s: &[u8], out: &mut [u8], to: usize, entry: Entry, n: usize) -> usize
-    requires { (entry.from ≤ entry.value.start) × (entry.value.start ≤ entry.value.annotations) × (entry.value.annotations ≤ entry.value.descriptor) × (entry.value.descriptor ≤ length s.now) × (to + entry_size entry n ≤ length out.old) }
-    ensures out_after { out.new ≡ sets out.old to (front_of (head_of s.now (part s.now entry.from entry.value.start) (spans_of entry.value) n) n) }
-    ensures n_value { result + n ≡ to + entry_size entry n }
-{
-    let value = entry.value;
-    let byte = kept_byte(value.byte, n);
-    let header = header_size(byte, n);
-    let from = entry.from;
-    let start = value.start;
-    put_bytes(out, to, &s[from..start]);
-    let named = to + (start - from);
-    let wrapped = put_wrap(
-        s,
-        out,
-        named,
-        value.annotations,
-        value.descriptor,
-        header + n,
-    );
-    put_header(out, wrapped, byte, n);
-    wrapped + header
-}
-
-// Packs the part at..end. The position behind it.
-#[cycle(pack_part_pack_value)]
-fn pack_part(
-    s: &[u8],
-    out: &mut [u8],
-    to: usize,
-    rules: Rules,
-    at: usize,
-    end: usize,
-    limit: usize,
-) -> usize
-    requires { (at ≤ end) × (end ≤ length s.now) × (to + length (bytes_at limit s.now rules end at) ≤ length out.old) }
-    ensures out_after { out.new ≡ sets out.old to (bytes_at limit s.now rules end at) }
-    ensures value { result ≡ to + length (bytes_at limit s.now rules end at) }
-{
-    let mut from = at;
-    let mut next = to;
-    while let Some(met) = meet(s, rules, from, end, limit) {
-        match met {
-            Met::Marker {
-                major,
-                minor,
-                end: past,
-            } => {
-                put_marker(out, next, major, minor);
-                next += MARKER;
-                from = past;
+    // Packs it. The position behind it.
+    #[cycle(packs)]
+    #[tactic(auto, using(numbers::proofs::Parts::part_taken))]
+    fn pack(self, out: &mut [u8], to: usize) -> usize
+        requires { to + length (entry_bytes self) ≤ length out.old }
+        ensures out_after { out.new ≡ sets out.old to (entry_bytes self.entry) }
+        ensures value { result ≡ to + length (entry_bytes self.entry) }
+    {
+        match self.inside() {
+            Some(inside) => {
+                let n = inside.size();
+                let body = self.put_front(out, to, n);
+                inside.pack(out, body)
             }
-            Met::Value(entry) => {
-                next = pack_value(s, out, next, entry, limit);
-                from = entry.value.end;
+            None => {
+                let start = self.value.body;
+                let end = self.value.end;
+                let body = self.put_front(out, to, end - start);
+                put_bytes(out, body, &self.s[start..end]);
+                body + (end - start)
             }
         }
     }
-    next
 }
 
-// Packs a value with its field ID. The position behind it.
-#[cycle(pack_part_pack_value)]
-fn pack_value(s: &[u8], out: &mut [u8], to: usize, entry: Entry, limit: usize) -> usize
-    requires { HandedOut limit s.now entry.from (length s.now) entry.from (spans_of entry.value) × (to + length (value_bytes limit s.now entry.from (spans_of entry.value)) ≤ length out.old) }
-    ensures out_after { out.new ≡ sets out.old to (value_bytes limit s.now entry.from (spans_of entry.value)) }
-    ensures value { result ≡ to + length (value_bytes limit s.now entry.from (spans_of entry.value)) }
-{
-    let value = entry.value;
-    if is_container(value) {
-        let rules = body_rules(value);
-        let n = part_size(s, rules, value.body, value.end, limit);
-        let body = put_front(s, out, to, entry, n);
-        return pack_part(s, out, body, rules, value.body, value.end, limit);
+impl<'a> Part<'a> {
+    // Packs it. The position behind it.
+    #[cycle(packs)]
+    #[tactic(auto, using(encoding::proofs::Stores::sets_more, crate::proofs::Places::part_sizes))]
+    fn pack(self, out: &mut [u8], to: usize) -> usize
+        requires { to + length (part_bytes self) ≤ length out.old }
+        ensures out_after { out.new ≡ sets out.old to (part_bytes self.entry) }
+        ensures value { result ≡ to + length (part_bytes self.entry) }
+    {
+        let mut from = self.at;
+        let mut next = to;
+        while let Some(met) = self.meet(from) {
+            match met {
+                Met::Marker { major, minor, end } => {
+                    put_marker(out, next, major, minor);
+                    next += MARKER;
+                    from = end;
+                }
+                Met::Value(entry) => {
+                    next = entry.pack(out, next);
+                    from = entry.value.end;
+                }
+            }
+        }
+        next
     }
-    put_scalar(s, out, to, entry)
-}
-
-// Packs a value that is no container. The position behind it.
-fn put_scalar(s: &[u8], out: &mut [u8], to: usize, entry: Entry) -> usize
-    requires { PlacedAt s.now entry.from (length s.now) entry.from (spans_of entry.value) × (to + entry_size entry (entry.value.end - entry.value.body) ≤ length out.old) }
-    ensures out_after { out.new ≡ sets out.old to (written (head_of s.now (part s.now entry.from entry.value.start) (spans_of entry.value) (entry.value.end - entry.value.body)) (part s.now entry.value.body entry.value.end)) }
-    ensures value { result ≡ to + entry_size entry (entry.value.end - entry.value.body) }
-{
-    let start = entry.value.body;
-    let end = entry.value.end;
-    let body = put_front(s, out, to, entry, end - start);
-    put_bytes(out, body, &s[start..end]);
-    body + (end - start)
 }
 
 // Packs a map that is accepted into the buffer, where it fits.
+#[tactic(auto, using(crate::proofs::Buffers::size_is, crate::proofs::Buffers::no_room, crate::proofs::Buffers::has_room, crate::proofs::Buffers::not_packed, crate::proofs::Buffers::left_alone, crate::proofs::Buffers::filled))]
 pub fn pack(s: &[u8], limit: usize, deepest: usize, out: &mut [u8]) -> Result<usize, Refusal>
     ensures result_value { size_read result ≡ pack_of limit deepest s.now (length out.old) }
     ensures out_after { out.new ≡ buffer_of limit deepest s.now out.old }
@@ -176,6 +136,6 @@ pub fn pack(s: &[u8], limit: usize, deepest: usize, out: &mut [u8]) -> Result<us
             position: n,
         });
     }
-    pack_part(s, out, 0, Rules::Stream, 0, s.len(), limit);
+    Part::whole(s, limit).pack(out, 0);
     Ok(n)
 }
