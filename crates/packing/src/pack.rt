@@ -30,10 +30,10 @@ fn put_marker(out: &mut [u8], to: usize, major: u8, minor: u8)
 impl<'a> Entry<'a> {
     // Puts what goes before a value of `n` bytes with its annotations: nothing where there are none. The position behind it.
     #[tactic(auto, using(crate::proofs::Fronts::front_none, crate::proofs::Fronts::wrap_summed, crate::proofs::Fronts::wrap_stored, crate::proofs::Sizes::wrap_none, numbers::proofs::Parts::part_taken, numbers::proofs::Parts::part_length))]
-    fn put_wrap(self, out: &mut [u8], to: usize, n: usize) -> usize
-        requires { to + wrap_size (self.value.descriptor - self.value.annotations) n ≤ length out.old }
-        ensures out_after { out.new ≡ sets out.old to (wrap_front (part self.entry.s.now self.entry.value.annotations self.entry.value.descriptor) n) }
-        ensures n_value { result + n ≡ to + wrap_size (self.entry.value.descriptor - self.entry.value.annotations) n }
+    fn put_wrap(&self, out: &mut [u8], to: usize, n: usize) -> usize
+        requires { to + wrap_size (self.now.value.descriptor - self.now.value.annotations) n ≤ length out.old }
+        ensures out_after { out.new ≡ sets out.old to (wrap_front (part self.now.s.now self.now.value.annotations self.now.value.descriptor) n) }
+        ensures n_value { result + n ≡ to + wrap_size (self.now.value.descriptor - self.now.value.annotations) n }
     {
         let start = self.value.annotations;
         let end = self.value.descriptor;
@@ -53,10 +53,10 @@ impl<'a> Entry<'a> {
 
     // Puts what goes before its body, of `n` bytes: its field ID, its annotations, its descriptor and its length. The position behind it.
     #[tactic(auto, using(crate::proofs::Entries::entry_size, crate::proofs::Entries::entry_least, crate::proofs::Fronts::entry_stored, numbers::proofs::Parts::part_taken))]
-    fn put_front(self, out: &mut [u8], to: usize, n: usize) -> usize
-        requires { (n ≡ length (entry_body self)) × (to + length (entry_bytes self) ≤ length out.old) }
-        ensures out_after { sets out.new result (entry_body self.entry) ≡ sets out.old to (entry_bytes self.entry) }
-        ensures n_value { result + n ≡ to + length (entry_bytes self.entry) }
+    fn put_front(&self, out: &mut [u8], to: usize, n: usize) -> usize
+        requires { (n ≡ length (entry_body self.now)) × (to + length (entry_bytes self.now) ≤ length out.old) }
+        ensures out_after { sets out.new result (entry_body self.now) ≡ sets out.old to (entry_bytes self.now) }
+        ensures n_value { result + n ≡ to + length (entry_bytes self.now) }
     {
         let value = self.value;
         let byte = kept_byte(value.byte, n);
@@ -73,10 +73,10 @@ impl<'a> Entry<'a> {
     // Packs it. The position behind it.
     #[cycle(packs)]
     #[tactic(auto, using(numbers::proofs::Parts::part_taken))]
-    fn pack(self, out: &mut [u8], to: usize) -> usize
-        requires { to + length (entry_bytes self) ≤ length out.old }
-        ensures out_after { out.new ≡ sets out.old to (entry_bytes self.entry) }
-        ensures value { result ≡ to + length (entry_bytes self.entry) }
+    fn pack(&self, out: &mut [u8], to: usize) -> usize
+        requires { to + length (entry_bytes self.now) ≤ length out.old }
+        ensures out_after { out.new ≡ sets out.old to (entry_bytes self.now) }
+        ensures value { result ≡ to + length (entry_bytes self.now) }
     {
         match self.inside() {
             Some(inside) => {
@@ -99,10 +99,10 @@ impl<'a> Part<'a> {
     // Packs it. The position behind it.
     #[cycle(packs)]
     #[tactic(auto, using(encoding::proofs::Stores::sets_more, crate::proofs::Places::part_sizes))]
-    fn pack(self, out: &mut [u8], to: usize) -> usize
-        requires { to + length (part_bytes self) ≤ length out.old }
-        ensures out_after { out.new ≡ sets out.old to (part_bytes self.entry) }
-        ensures value { result ≡ to + length (part_bytes self.entry) }
+    fn pack(&self, out: &mut [u8], to: usize) -> usize
+        requires { to + length (part_bytes self.now) ≤ length out.old }
+        ensures out_after { out.new ≡ sets out.old to (part_bytes self.now) }
+        ensures value { result ≡ to + length (part_bytes self.now) }
     {
         let mut from = self.at;
         let mut next = to;

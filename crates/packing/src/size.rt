@@ -49,11 +49,11 @@ impl<'a> Part<'a> {
 
     // What the step at `at` meets. At the part's end nothing.
     #[tactic(auto, using(crate::proofs::Unrolled::step_bytes))]
-    pub(crate) fn meet(self, at: usize) -> Option<Met<'a>>
-        ensures meets { left_bytes self.entry at ≡ met_bytes self.entry result }
-        ensures fits { MetFits self.entry at result }
+    pub(crate) fn meet(&self, at: usize) -> Option<Met<'a>>
+        ensures meets { left_bytes self.now at ≡ met_bytes self.now result }
+        ensures fits { MetFits self.now at result }
     {
-        let Part { s, limit, .. } = self;
+        let Part { s, limit, .. } = *self;
         match item_at(self.rules, s, at, self.end, limit) {
             Ok(
                 Item::Marker {
@@ -83,8 +83,8 @@ impl<'a> Part<'a> {
     // it goes. One walk over a sink would walk each inside twice to get a size, at every depth again.
     #[cycle(sizes)]
     #[tactic(auto, using(crate::proofs::Places::part_sizes))]
-    pub(crate) fn size(self) -> usize
-        ensures { result ≡ length (part_bytes self.entry) }
+    pub(crate) fn size(&self) -> usize
+        ensures { result ≡ length (part_bytes self.now) }
     {
         let mut from = self.at;
         let mut size = 0;
@@ -106,8 +106,8 @@ impl<'a> Part<'a> {
 
 impl<'a> Entry<'a> {
     // What is in its value, where that is a container.
-    pub(crate) fn inside(self) -> Option<Part<'a>>
-        ensures { Inside self.entry result }
+    pub(crate) fn inside(&self) -> Option<Part<'a>>
+        ensures { Inside self.now result }
     {
         let body = open(self.value).ok()?;
         Some(Part {
@@ -121,9 +121,9 @@ impl<'a> Entry<'a> {
 
     // How many bytes it takes, of which its body has `n`.
     #[tactic(auto, using(crate::proofs::Entries::entry_size, crate::proofs::Entries::entry_least))]
-    pub(crate) fn framed_size(self, n: usize) -> usize
-        requires { n ≡ length (entry_body self) }
-        ensures { result ≡ length (entry_bytes self.entry) }
+    pub(crate) fn framed_size(&self, n: usize) -> usize
+        requires { n ≡ length (entry_body self.now) }
+        ensures { result ≡ length (entry_bytes self.now) }
     {
         let value = self.value;
         let size = header_size(kept_byte(value.byte, n), n) + n;
@@ -132,8 +132,8 @@ impl<'a> Entry<'a> {
 
     // How many bytes it takes.
     #[cycle(sizes)]
-    fn size(self) -> usize
-        ensures { result ≡ length (entry_bytes self.entry) }
+    fn size(&self) -> usize
+        ensures { result ≡ length (entry_bytes self.now) }
     {
         match self.inside() {
             Some(inside) => self.framed_size(inside.size()),

@@ -6,10 +6,10 @@ use Rattle.packing.specs.Private.Items.{left_bytes, part_bytes}
 use Rattle.packing.proofs.part.+packs.Given as goal
 
 abbrev pub decreases-Part::pack : goal.decreases-Part::pack
-decreases-Part::pack l = (l.self.end - l.self.at) + (l.self.end - l.self.at) + 1
+decreases-Part::pack l = (l.self.now.end - l.self.now.at) + (l.self.now.end - l.self.now.at) + 1
 
 abbrev pub decreases-Entry::pack : goal.decreases-Entry::pack
-decreases-Entry::pack l = (l.self.value.end - l.self.from) + (l.self.value.end - l.self.from)
+decreases-Entry::pack l = (l.self.now.value.end - l.self.now.from) + (l.self.now.value.end - l.self.now.from)
 
 abbrev pub invariant-Part::pack-loop-met : goal.invariant-Part::pack-loop-met
 invariant-Part::pack-loop-met l =

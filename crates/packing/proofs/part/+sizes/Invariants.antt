@@ -5,10 +5,10 @@ use Rattle.packing.specs.Private.Items.{left_bytes, part_bytes}
 use Rattle.packing.proofs.part.+sizes.Given as goal
 
 abbrev pub decreases-Part::size : goal.decreases-Part::size
-decreases-Part::size l = (l.self.end - l.self.at) + (l.self.end - l.self.at) + 1
+decreases-Part::size l = (l.self.now.end - l.self.now.at) + (l.self.now.end - l.self.now.at) + 1
 
 abbrev pub decreases-Entry::size : goal.decreases-Entry::size
-decreases-Entry::size l = (l.self.value.end - l.self.from) + (l.self.value.end - l.self.from)
+decreases-Entry::size l = (l.self.now.value.end - l.self.now.from) + (l.self.now.value.end - l.self.now.from)
 
 abbrev pub invariant-Part::size-loop-met : goal.invariant-Part::size-loop-met
 invariant-Part::size-loop-met l = (l.self.at ≤ l.from) × (l.size + length (left_bytes l.self l.from) ≡ length (part_bytes l.self))

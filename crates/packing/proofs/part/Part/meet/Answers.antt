@@ -9,15 +9,15 @@ use Rattle.packing.proofs.Unrolled.{step_bytes}
 use Rattle.packing.proofs.part.Part.meet.Goals as goal
 use Rattle.packing.proofs.part.Part.meet.Goals.{In-Ok-Value, In-Ok-Field}
 
-value_lies : (c : In-Ok-Value) → let p = c.args.self in let v = c.in-Ok-Value.value in HandedOut p.limit p.s.now c.args.at p.end v.start (spans_of v)
+value_lies : (c : In-Ok-Value) → let p = c.args.self.now in let v = c.in-Ok-Value.value in HandedOut p.limit p.s.now c.args.at p.end v.start (spans_of v)
 value_lies c =
-    let p = c.args.self in
+    let p = c.args.self.now in
     let m = c.in-Ok-Value in
     answer_lies p.limit p.rules p.s.now c.args.at p.end (value (spans_of m.value)) (sym (rw m.field-0-is at m.ensures))
 
-field_lies : (c : In-Ok-Field) → let p = c.args.self in let m = c.in-Ok-Field in HandedOut p.limit p.s.now c.args.at p.end m.start (spans_of m.value)
+field_lies : (c : In-Ok-Field) → let p = c.args.self.now in let m = c.in-Ok-Field in HandedOut p.limit p.s.now c.args.at p.end m.start (spans_of m.value)
 field_lies c =
-    let p = c.args.self in
+    let p = c.args.self.now in
     let m = c.in-Ok-Field in
     answer_lies p.limit p.rules p.s.now c.args.at p.end (field m.field-0-0 m.start (spans_of m.value)) (sym (rw m.field-0-is at m.ensures))
 
@@ -29,7 +29,7 @@ invariant_of-result-in-Ok-Field c = let h = field_lies c in record { named = h.n
 
 pub returns-in-Ok-Marker : goal.returns-in-Ok-Marker
 returns-in-Ok-Marker c =
-    let p = c.args.self in
+    let p = c.args.self.now in
     let m = c.in-Ok-Marker in
     let e = rw m.field-0-is at m.ensures in
     record {
@@ -39,7 +39,7 @@ returns-in-Ok-Marker c =
 
 pub returns-in-Ok-Value : goal.returns-in-Ok-Value
 returns-in-Ok-Value c =
-    let p = c.args.self in
+    let p = c.args.self.now in
     let m = c.in-Ok-Value in
     let h = value_lies (goal.at.returns-in-Ok-Value c).In-Ok-Value in
     record {
@@ -49,7 +49,7 @@ returns-in-Ok-Value c =
 
 pub returns-in-Ok-Field : goal.returns-in-Ok-Field
 returns-in-Ok-Field c =
-    let p = c.args.self in
+    let p = c.args.self.now in
     let m = c.in-Ok-Field in
     let h = field_lies (goal.at.returns-in-Ok-Field c).In-Ok-Field in
     record {
