@@ -22,9 +22,9 @@ use Rattle.packing.specs.Packed.{head_of}
 use Rattle.packing.specs.Private.Bytes.{value_bytes}
 use Rattle.packing.specs.Private.Items.{entry_body, entry_bytes}
 use Rattle.packing.specs.declared.part.Entry.{Entry}
-use Rattle.packing.specs.Private.Sizes.{header_size, wrapped_size, wrap_size, value_size}
+use Rattle.packing.specs.Private.Sizes.{header_size, wrapped_size, wrap_size}
 use Rattle.packing.specs.Private.Fronts.{wrap_front, front_of}
-use Rattle.packing.proofs.Sizes.{header_length, value-length, wrapped-size, wrap_some}
+use Rattle.packing.proofs.Sizes.{value-length, wrapped-size, wrap_some}
 
 inner : (a v : List ℕ) → wrapped_bytes a v ≡ (var_uint_bytes (length a) ++ a) ++ v
 unfolding wrapped_bytes

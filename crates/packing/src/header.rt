@@ -51,7 +51,7 @@ pub(crate) fn kept_byte(byte: u8, n: usize) -> u8
     }
 }
 
-// How many bytes a descriptor and a length take.
+// How many bytes a descriptor and a length take. What puts them stays beside it: a length that is put before them counts them.
 #[tactic(auto, using(encoding::proofs::VarUInts::size_high), unfolding(crate::specs::Private::Sizes::header_size, crate::specs::Private::Kinds::kind_of))]
 pub(crate) fn header_size(byte: u8, n: usize) -> usize
     ensures { result ≡ header_size byte n }
@@ -63,7 +63,7 @@ pub(crate) fn header_size(byte: u8, n: usize) -> usize
     }
 }
 
-// Puts a descriptor and the length of a body of `n` bytes. It stays beside `header_size`: a wrapper's length counts a header that is put behind it.
+// Puts a descriptor and the length of a body of `n` bytes.
 #[tactic(auto, using(encoding::proofs::Stores::sets_out), unfolding(crate::specs::Tree::header_of, crate::specs::Private::Kinds::kind_of))]
 pub(crate) fn put_header(out: &mut [u8], to: usize, byte: u8, n: usize)
     ensures { out.new ≡ sets out.old to (header_of byte n) }

@@ -78,18 +78,13 @@ impl<'a> Entry<'a> {
         ensures out_after { out.new ≡ sets out.old to (entry_bytes self.now) }
         ensures value { result ≡ to + length (entry_bytes self.now) }
     {
+        let n = self.body_size();
+        let body = self.put_front(out, to, n);
         match self.inside() {
-            Some(inside) => {
-                let n = inside.size();
-                let body = self.put_front(out, to, n);
-                inside.pack(out, body)
-            }
+            Some(inside) => inside.pack(out, body),
             None => {
-                let start = self.value.body;
-                let end = self.value.end;
-                let body = self.put_front(out, to, end - start);
-                put_bytes(out, body, &self.s[start..end]);
-                body + (end - start)
+                put_bytes(out, body, &self.s[self.value.body..self.value.end]);
+                body + n
             }
         }
     }

@@ -19,7 +19,8 @@ use values::value::open;
 // The bytes of a marker.
 pub(crate) const MARKER: usize = 4;
 
-// How many bytes a value of `n` bytes takes behind its annotations.
+// How many bytes a value of `n` bytes takes behind its annotations. This and `put_wrap`, as `size` and `put_front` of an entry, stay two: the lengths around a
+// value are put before it, and count it. A sink that counts or puts would be a trait, two impls and their laws, where each of these is a few lines.
 #[tactic(auto, using(std::proofs::lemmas::Bool::Decides::nat_tests), unfolding(crate::specs::Private::Sizes::wrap_size, crate::specs::Private::Sizes::wrapped_size))]
 pub(crate) fn wrap_size(annotations: usize, n: usize) -> usize
     requires { wrap_size annotations n < 2 ^ 64 }
@@ -95,7 +96,7 @@ impl<'a> Part<'a> {
                     from = end;
                 }
                 Met::Value(entry) => {
-                    size += entry.size();
+                    size += entry.size(entry.body_size());
                     from = entry.value.end;
                 }
             }
@@ -119,26 +120,27 @@ impl<'a> Entry<'a> {
         })
     }
 
+    // How many bytes its body takes.
+    #[cycle(sizes)]
+    #[tactic(auto, using(numbers::proofs::Parts::part_length))]
+    pub(crate) fn body_size(&self) -> usize
+        ensures { result ≡ length (entry_body self.now) }
+    {
+        match self.inside() {
+            Some(inside) => inside.size(),
+            None => self.value.end - self.value.body,
+        }
+    }
+
     // How many bytes it takes, of which its body has `n`.
     #[tactic(auto, using(crate::proofs::Entries::entry_size, crate::proofs::Entries::entry_least))]
-    pub(crate) fn framed_size(&self, n: usize) -> usize
+    fn size(&self, n: usize) -> usize
         requires { n ≡ length (entry_body self.now) }
         ensures { result ≡ length (entry_bytes self.now) }
     {
         let value = self.value;
         let size = header_size(kept_byte(value.byte, n), n) + n;
         (value.start - self.from) + wrap_size(value.descriptor - value.annotations, size)
-    }
-
-    // How many bytes it takes.
-    #[cycle(sizes)]
-    fn size(&self) -> usize
-        ensures { result ≡ length (entry_bytes self.now) }
-    {
-        match self.inside() {
-            Some(inside) => self.framed_size(inside.size()),
-            None => self.framed_size(self.value.end - self.value.body),
-        }
     }
 }
 
