@@ -13,7 +13,7 @@ use lib.ListN.{length, get_or, take, drop, replicate, length-append, length-repl
 use lib.Seq.{sets, sets-eq, length-sets}
 use borrow.Rule.Slice.PartMut.{put_mid}
 use Rattle.std.proofs.lemmas.Grind.{same_number_lists}
-use Rattle.std.proofs.lemmas.List.{get_or-replicate, drop-drop}
+use Rattle.std.proofs.lemmas.List.{get_or-replicate, drop-drop, places}
 use lib.Dec.{ltb, eqb}
 use Rattle.numbers.proofs.Outcomes.{by_test, by_case}
 use Rattle.encoding.specs.Fields.{var_uint_in, fewest, var_uint_size}
@@ -159,6 +159,6 @@ pub ruleset fields = (pad_none, pad_past, pad_told, field_none, field_from, fiel
 
 pub ruleset heads = (pad_some, pad_few, field_some, head_short, head_long)
 
-pub ruleset puts = (pad_few, field_small)
+pub ruleset puts = (pad_few, field_small, pad_stored, places)
 
 pub ruleset stores = (pad_length, stored)

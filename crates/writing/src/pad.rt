@@ -36,6 +36,7 @@ impl Pad {
         if size < LONG {
             return Some(Pad { size, field: 0 });
         }
+        // By `find` over the range this was tried, and its proof did not close.
         for field in 1..=MOST_BYTES {
             if var_uint_size(size - 1 - field) <= field {
                 return Some(Pad { size, field });
