@@ -283,7 +283,7 @@ impl Walk {
 
     // How many items at most `most` calls hand out from the walk's place on. In one piece: a turn ends the count, goes on without an item, or hands one out. A
     // function for a turn would answer one of the three, and the loop would test it again.
-    #[tactic(auto, using(crate::proofs::Depths::depth_room))]
+    #[tactic(auto, using(crate::proofs::Depths::depth_room, crate::proofs::Turns::turns))]
     fn count(&mut self, s: &[u8], most: u64, limits: Limits) -> u64
         ensures { result ≡ items_in (calls limits.bytes limits.depth most s.now self.old) }
     {
