@@ -5,7 +5,7 @@ ghost use Rattle.writing.specs.Things.{pad, pad_field, pad_head, pad_bytes, writ
 ghost use Rattle.writing.specs.Answers.{no_pad, write_of, buffer_after};
 ghost use Rattle.writing.specs.Read.{written_read};
 
-use crate::written::{MOST_BYTES, refused};
+use crate::written::{MOST_BYTES, refused, room_for};
 use encoding::put::{put_byte, put_var_uint_in, var_uint_size};
 use numbers::refusal::{Reason, Refusal};
 
@@ -71,7 +71,7 @@ impl Pad {
 }
 
 // Writes a pad of this total size.
-#[tactic(auto, using(std::proofs::lemmas::Bool::Decides::nat_tests, crate::proofs::Pads::stores), unfolding(crate::specs::Answers::write_of))]
+#[tactic(auto, using(std::proofs::lemmas::Bool::Decides::nat_tests, numbers::proofs::Passing::passed_on, crate::proofs::Pads::stores), unfolding(crate::specs::Answers::write_of))]
 pub fn write_pad(size: usize, to: &mut [u8]) -> Result<usize, Refusal>
     ensures answers { (limit deepest : ℕ) → written_read result ≡ write_of limit deepest (pad size) (length to.old) }
     ensures puts { to.new ≡ buffer_after (written (pad size)) to.old (written_read result) }
@@ -79,9 +79,7 @@ pub fn write_pad(size: usize, to: &mut [u8]) -> Result<usize, Refusal>
     let Some(pad) = Pad::new(size) else {
         return refused(Reason::NoSuchLength, 0);
     };
-    if to.len() < size {
-        return refused(Reason::NoRoomToWrite, size);
-    }
+    let size = room_for(to, size)?;
     pad.put(to);
     Ok(size)
 }

@@ -6,7 +6,7 @@ ghost use Rattle.writing.specs.Things.{null, bool, int, float, symbol, scalar, n
 ghost use Rattle.writing.specs.Answers.{has_body, judged_scalar, fitted, write_of, buffer_after};
 ghost use Rattle.writing.specs.Read.{written_read};
 
-use crate::written::{Typed, refused};
+use crate::written::{Typed, refused, room_for};
 use bodies::magnitude::significant;
 use checking::item::read_body;
 use framing::binary_buffer::bare_value;
@@ -31,15 +31,14 @@ const LAST_TYPE: usize = 13;
 const LEAST_TIMESTAMP: usize = 2;
 
 // Puts a thing of one byte at the buffer's start, if it fits.
+#[tactic(auto, using(numbers::proofs::Passing::passed_on))]
 fn put_one(to: &mut [u8], byte: u8) -> Result<usize, Refusal>
     ensures answers { written_read result ≡ fitted (length to.old) 1 done }
     ensures puts { to.new ≡ buffer_after (byte ∷ []) to.old (written_read result) }
 {
-    if to.is_empty() {
-        return refused(Reason::NoRoomToWrite, 1);
-    }
+    let size = room_for(to, 1)?;
     to[0] = byte;
-    Ok(1)
+    Ok(size)
 }
 
 // The byte of a type's null: an int's is that of the positive ones. None for a code that is no type's.

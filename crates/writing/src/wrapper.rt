@@ -11,7 +11,7 @@ ghost use Rattle.writing.specs.Answers.{past_nine, lent_value, judged_parts, jud
 ghost use Rattle.writing.specs.Read.{written_read};
 ghost use Rattle.writing.specs.Private.Inner.{inner_fault};
 
-use crate::written::{past_nine, refused};
+use crate::written::{past_nine, refused, room_for};
 use checking::check::check_body;
 use checking::item::read_ids;
 use encoding::put::{head_size, put_bytes, put_head, put_var_uint, var_uint_size};
@@ -115,7 +115,7 @@ impl<'a> Wrapper<'a> {
     }
 
     // Puts it at the buffer's start, if it fits.
-    #[tactic(auto, using(std::proofs::lemmas::Bool::Decides::nat_tests, crate::proofs::Lengths::wrapper_put))]
+    #[tactic(auto, using(numbers::proofs::Passing::passed_on, crate::proofs::Lengths::wrapper_put))]
     fn put(self, to: &mut [u8]) -> Result<usize, Refusal>
         ensures answers { written_read result ≡ fitted (length to.old) (length (wrapper_bytes self.entry.annotations.now self.entry.value.now)) done }
         ensures puts { to.new ≡ buffer_after (wrapper_bytes self.entry.annotations.now self.entry.value.now) to.old (written_read result) }
@@ -124,10 +124,7 @@ impl<'a> Wrapper<'a> {
         let field = var_uint_size(m);
         let n = field + (m + self.value.len());
         let head = head_size(n);
-        let size = head + n;
-        if to.len() < size {
-            return refused(Reason::NoRoomToWrite, size);
-        }
+        let size = room_for(to, head + n)?;
         put_head(to, 0, WRAPPER, n);
         put_var_uint(to, head, m);
         put_bytes(to, head + field, self.annotations);

@@ -1,5 +1,5 @@
 // A refusal to write, and a value of a type put into a lent buffer.
-ghost use Rattle.std.specs.Prelude.{◌≡◌, true, false, ◌<◌, length, Err, MatchOption};
+ghost use Rattle.std.specs.Prelude.{◌≡◌, true, false, ◌≤◌, ◌<◌, length, Err, MatchOption, IfOk};
 ghost use Rattle.checking.specs.Reading.{done};
 ghost use Rattle.encoding.specs.Heads.{typed_bytes};
 ghost use Rattle.writing.specs.Answers.{past_nine, fitted, buffer_after};
@@ -15,6 +15,18 @@ pub(crate) fn refused<T>(reason: Reason, position: usize) -> Result<T, Refusal>
     ensures { result ≡ Err (record { reason = reason; position = position }) }
 {
     Err(Refusal { reason, position })
+}
+
+// How many bytes are written, where the buffer has room for them.
+#[tactic(auto, using(std::proofs::lemmas::Bool::Decides::nat_tests))]
+pub(crate) fn room_for(to: &[u8], size: usize) -> Result<usize, Refusal>
+    ensures answers { written_read result ≡ fitted (length to.now) size done }
+    ensures room { IfOk result (λ n. (n ≡ size) × (size ≤ length to.now)) }
+{
+    if to.len() < size {
+        return refused(Reason::NoRoomToWrite, size);
+    }
+    Ok(size)
 }
 
 // Whether a length is past nine bytes of a VarUInt.
@@ -47,17 +59,14 @@ impl<'a> Typed<'a> {
     }
 
     // Puts it at the buffer's start, if it fits.
-    #[tactic(auto, using(std::proofs::lemmas::Bool::Decides::nat_tests, crate::proofs::Lengths::typed_put))]
+    #[tactic(auto, using(numbers::proofs::Passing::passed_on, crate::proofs::Lengths::typed_put))]
     pub(crate) fn put(self, to: &mut [u8]) -> Result<usize, Refusal>
         ensures answers { written_read result ≡ fitted (length to.old) (length (typed_bytes self.entry.type_code self.entry.body.now)) done }
         ensures puts { to.new ≡ buffer_after (typed_bytes self.entry.type_code self.entry.body.now) to.old (written_read result) }
     {
         let n = self.body.len();
         let head = head_size(n);
-        let size = head + n;
-        if to.len() < size {
-            return refused(Reason::NoRoomToWrite, size);
-        }
+        let size = room_for(to, head + n)?;
         put_head(to, 0, self.type_code * 16, n);
         put_bytes(to, head, self.body);
         Ok(size)
