@@ -25,7 +25,7 @@ pub fn head_size(n: usize) -> usize
     if n < LONG { 1 } else { 1 + var_uint_size(n) }
 }
 
-// The seven bits of `n` that `k` bytes follow.
+// The seven bits of `n` that `k` bytes follow. Byte by byte: for a large `k` the power of 128 is no `usize`, and a shift is too long.
 #[tactic(auto, using(crate::proofs::VarUInts::next_power, crate::proofs::VarUInts::no_power))]
 fn digit(n: usize, k: usize) -> usize
     ensures { result ≡ n / 128 ^ k % 128 }

@@ -97,6 +97,7 @@ fn list_map<W: Write>(out: &mut W, map: &[u8]) -> io::Result<()> {
 // Writes the walk of the map that is read from a file; of one that is too long, only that.
 pub fn list_file<R: Print + AllocGlobal>(rt: &R, file: &mut impl Read) -> io::Result<()> {
     let mut map = Vec::new(rt.alloc());
+    // `as`: std has no `From` of a `usize` for a `u64`.
     file.take(MOST as u64 + 1).read_to_end(&mut map)?;
     let mut out = BufWriter::new(rt.alloc(), io::writer(rt))?;
     if MOST < map.len() {

@@ -7,6 +7,16 @@ use std::alloc::AllocError;
 
 pub type Said = Result<String, AllocError>;
 
+// What is said of a call that has the buffer for its record.
+pub fn left(words: &Words, returned: u64, out: &[u8]) -> Said {
+    format!(in words.alloc; "{returned}{}", Left(out))
+}
+
+// And of one that has the buffer for what it writes too.
+pub fn both_left(words: &Words, returned: u64, to: &[u8], out: &[u8]) -> Said {
+    format!(in words.alloc; "{returned} : {}{}", Hexadecimal(to), Left(out))
+}
+
 // Lends a call the buffer for its record.
 pub fn lend<F>(words: &mut Words, call: F) -> Said
 where
@@ -15,10 +25,10 @@ where
 {
     let mut out = buffer(words)?;
     let returned = call(&mut out, words)?;
-    format!(in words.alloc; "{returned}{}", Left(&out))
+    left(words, returned, &out)
 }
 
-// Lends it the one for what it writes too.
+// Lends it the other one too.
 pub fn lend_both<F>(words: &mut Words, call: F) -> Said
 where
     F: FnOnce(&mut [u8], &mut [u8], &mut Words) -> Result<u64, AllocError> + Drop,
@@ -27,5 +37,5 @@ where
     let mut out = buffer(words)?;
     let mut to = buffer(words)?;
     let returned = call(&mut to, &mut out, words)?;
-    format!(in words.alloc; "{returned} : {}{}", Hexadecimal(&to), Left(&out))
+    both_left(words, returned, &to, &out)
 }

@@ -1,9 +1,9 @@
-// Calls of the readings of what a step hands out, and of the check of a whole map.
-use crate::arguments::{Limits, Place};
-use crate::lending::{Said, lend};
-use additions::readings::{ion_map_check, ion_map_decimal, ion_map_timestamp};
+// Calls of the readings: of what a step hands out, and of a whole map.
+use crate::arguments::{Limits, Place, buffer};
+use crate::lending::{Said, left, lend};
+use additions::readings::ion_map_decimal;
 use questions::words::{ANNOTATION_LIMIT, Words};
-use readings::exports::{ion_map_annotation, ion_map_number, ion_map_scalar, ion_map_step_in};
+use readings::exports::{ion_map_annotation, ion_map_number};
 
 pub fn annotation(map: &[u8], words: &mut Words) -> Said {
     let at = Place::of(words);
@@ -12,28 +12,17 @@ pub fn annotation(map: &[u8], words: &mut Words) -> Said {
     })
 }
 
-pub fn step_in(map: &[u8], words: &mut Words) -> Said {
+// Of the value at a position.
+pub fn of_value<F>(map: &[u8], words: &mut Words, read: F) -> Said
+where
+    F: FnOnce(&[u8], usize, usize, usize, usize, &mut [u8]) -> u64 + Drop,
+    requires { F.IsAlwaysCallable read }
+{
     let at = Place::of(words);
-    lend(words, |out, words| {
-        let limit = words.number_or(ANNOTATION_LIMIT);
-        Ok(ion_map_step_in(map, at.start, at.end, at.position, limit, out))
-    })
-}
-
-pub fn scalar(map: &[u8], words: &mut Words) -> Said {
-    let at = Place::of(words);
-    lend(words, |out, words| {
-        let limit = words.number_or(ANNOTATION_LIMIT);
-        Ok(ion_map_scalar(map, at.start, at.end, at.position, limit, out))
-    })
-}
-
-pub fn timestamp(map: &[u8], words: &mut Words) -> Said {
-    let at = Place::of(words);
-    lend(words, |out, words| {
-        let limit = words.number_or(ANNOTATION_LIMIT);
-        Ok(ion_map_timestamp(map, at.start, at.end, at.position, limit, out))
-    })
+    let mut out = buffer(words)?;
+    let limit = words.number_or(ANNOTATION_LIMIT);
+    let returned = read(map, at.start, at.end, at.position, limit, &mut out);
+    left(words, returned, &out)
 }
 
 pub fn number(map: &[u8], words: &mut Words) -> Said {
@@ -51,9 +40,14 @@ pub fn decimal(map: &[u8], words: &mut Words) -> Said {
     lend(words, |out, _| Ok(ion_map_decimal(map, start, end, out)))
 }
 
-pub fn check(map: &[u8], words: &mut Words) -> Said {
-    lend(words, |out, words| {
-        let Limits { limit, depth } = Limits::of(words);
-        Ok(ion_map_check(map, limit, depth, out))
-    })
+// Of a whole map.
+pub fn of_map<F>(map: &[u8], words: &mut Words, read: F) -> Said
+where
+    F: FnOnce(&[u8], usize, usize, &mut [u8]) -> u64 + Drop,
+    requires { F.IsAlwaysCallable read }
+{
+    let mut out = buffer(words)?;
+    let Limits { limit, depth } = Limits::of(words);
+    let returned = read(map, limit, depth, &mut out);
+    left(words, returned, &out)
 }

@@ -1,20 +1,12 @@
 // Calls of the functions that write: a packed map, and values.
-use crate::arguments::Limits;
-use crate::lending::{Said, lend, lend_both};
-use additions::packed::{ion_map_pack, ion_map_packed_size};
+use crate::arguments::{Limits, buffer};
+use crate::lending::{Said, both_left, lend_both};
+use additions::packed::ion_map_pack;
 use questions::words::Words;
+use std::str::FromStr;
 use writes::exports::{
-    ion_map_write_bool, ion_map_write_container, ion_map_write_float, ion_map_write_int,
-    ion_map_write_null, ion_map_write_pad, ion_map_write_scalar, ion_map_write_symbol,
-    ion_map_write_wrapper,
+    ion_map_write_container, ion_map_write_int, ion_map_write_scalar, ion_map_write_wrapper,
 };
-
-pub fn packed_size(map: &[u8], words: &mut Words) -> Said {
-    lend(words, |out, words| {
-        let Limits { limit, depth } = Limits::of(words);
-        Ok(ion_map_packed_size(map, limit, depth, out))
-    })
-}
 
 pub fn pack(map: &[u8], words: &mut Words) -> Said {
     lend_both(words, |to, out, words| {
@@ -23,45 +15,24 @@ pub fn pack(map: &[u8], words: &mut Words) -> Said {
     })
 }
 
-pub fn null(words: &mut Words) -> Said {
-    lend_both(
-        words,
-        |to, out, words| Ok(ion_map_write_null(words.number(), to, out)),
-    )
-}
-
-pub fn bool(words: &mut Words) -> Said {
-    lend_both(
-        words,
-        |to, out, words| Ok(ion_map_write_bool(words.number(), to, out)),
-    )
+// What one number says.
+pub fn of_number<N, F>(words: &mut Words, write: F) -> Said
+where
+    N: FromStr + Default + Drop,
+    N::Err: Drop,
+    F: FnOnce(N, &mut [u8], &mut [u8]) -> u64 + Drop,
+    requires { F.IsAlwaysCallable write }
+{
+    let mut out = buffer(words)?;
+    let mut to = buffer(words)?;
+    let returned = write(words.number(), &mut to, &mut out);
+    both_left(words, returned, &to, &out)
 }
 
 pub fn int(magnitude: &[u8], words: &mut Words) -> Said {
     lend_both(words, |to, out, words| {
         Ok(ion_map_write_int(magnitude, words.number(), to, out))
     })
-}
-
-pub fn float(words: &mut Words) -> Said {
-    lend_both(
-        words,
-        |to, out, words| Ok(ion_map_write_float(words.number(), to, out)),
-    )
-}
-
-pub fn symbol(words: &mut Words) -> Said {
-    lend_both(
-        words,
-        |to, out, words| Ok(ion_map_write_symbol(words.number(), to, out)),
-    )
-}
-
-pub fn pad(words: &mut Words) -> Said {
-    lend_both(
-        words,
-        |to, out, words| Ok(ion_map_write_pad(words.number(), to, out)),
-    )
 }
 
 pub fn scalar(body: &[u8], words: &mut Words) -> Said {

@@ -62,6 +62,7 @@ pub fn join<D: fmt::Display>(line: &mut String, item: &D) -> Result<(), AllocErr
     write!(line, "{item}")
 }
 
+// One arm for each question: a table in its place would hand out function pointers, which the check refuses.
 fn answer_asked(asked: Asked, words: &mut Words) -> Answer {
     let bytes = words.bytes()?;
     let at = words.number();

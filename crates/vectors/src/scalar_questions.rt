@@ -49,6 +49,7 @@ pub fn step_in(part: Part, words: &mut Words) -> Answer {
     let position = words.number();
     let limit = words.number_or(ANNOTATION_LIMIT);
     let body = value::step_in(part.s, part.at, part.end, position, limit)?;
+    // The words are the questions' own: `Debug` writes others.
     let name = match body.rules {
         Rules::Stream => "stream",
         Rules::Sequence => "sequence",

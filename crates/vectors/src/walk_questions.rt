@@ -6,7 +6,8 @@ use stepping::cursor::is_last;
 use walking::walk;
 use walking::walk::{PARTS, Walk, Walked};
 
-// `walk BYTES AT END LIMIT DEPTH`: what the walk of AT..END hands out, to its end or the first refusal.
+// `walk BYTES AT END LIMIT DEPTH`: what the walk of AT..END hands out, to its end or the first refusal. `listing` has such a loop from a map's start: a closure
+// for what each does with a line would be no shorter than the loop.
 pub fn walk(part: Part, words: &mut Words) -> Answer {
     let limit = words.number_or(ANNOTATION_LIMIT);
     let depth = words.number_or(DEPTH_LIMIT);
