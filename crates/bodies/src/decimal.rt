@@ -15,6 +15,7 @@ pub struct Decimal {
 }
 
 // Splits the decimal whose body is start..end. An empty body is zero with exponent 0.
+#[tactic(auto, using(crate::proofs::Splitting::split_tests), unfolding(crate::specs::Decimal::decimal, crate::specs::Decimal::with_coefficient, crate::specs::Decimal::split_as))]
 pub fn read_decimal(s: &[u8], start: usize, end: usize) -> Result<Decimal, Refusal>
     ensures { decimal_read result ≡ decimal s.now start end }
 {
@@ -46,6 +47,7 @@ pub fn read_decimal(s: &[u8], start: usize, end: usize) -> Result<Decimal, Refus
 }
 
 // The coefficient's bytes after its first one, as a part of the slice: empty where `read_decimal` refuses.
+#[tactic(auto, using(crate::proofs::Splitting::split_rest, numbers::proofs::Parts::part_taken), unfolding(crate::specs::Decimal::decimal_rest))]
 pub fn read_decimal_rest(s: &[u8], start: usize, end: usize) -> &[u8]
     ensures { result.now ≡ decimal_rest s.now start end }
 {

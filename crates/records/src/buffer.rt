@@ -1,4 +1,5 @@
-// The bytes of a record, and putting it into a lent buffer.
+// The bytes of a record, and putting it into a lent buffer: numbers in the order that C reads them in, and no text that `Display` would write. `as u64` of a
+// kind is its own number.
 ghost use Rattle.std.specs.Prelude.{◌≡◌, ◌*◌, ◌≤◌, ◌++◌, length, drop};
 ghost use Rattle.records.specs.Buffer.{word_size, bytes_of, number_in, words_in, words_returned};
 

@@ -1,4 +1,6 @@
 // The words of the records of symbols: a text, and the list of the table that rules.
+//
+// `as u64` of a `usize`: std has no `From` for it, and each is proved to lose nothing; of an enum it is the case's own number.
 ghost use Rattle.std.specs.Prelude.{◌≡◌};
 ghost use Rattle.symbols.specs.Read.{symbols_read, text_read};
 ghost use Rattle.records.specs.Kinds.{kind_word};

@@ -1,4 +1,6 @@
 // The words of each kind of record.
+//
+// `as u64` of a `usize`: std has no `From` for it, and each is proved to lose nothing; of an enum it is the case's own number.
 ghost use Rattle.std.specs.Prelude.{◌≡◌, ◌+◌, ◌-◌, [], ◌∷◌};
 ghost use Rattle.numbers.specs.Outcome.{and_then, gives};
 ghost use Rattle.numbers.specs.Read.{outcome};
@@ -52,7 +54,7 @@ fn value_words(
     ]
 }
 
-// The kind of a value's record, by the rules of its part.
+// The kind of a value's record, by the rules of its part. No `From`: it is not the rules that have a kind; and nothing is run by the case.
 fn value_kind(rules: Rules) -> RecordKind
     ensures { kind_word result ≡ value_kind rules }
 {

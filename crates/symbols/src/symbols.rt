@@ -15,13 +15,19 @@ use numbers::binary_buffer::outside;
 use numbers::refusal::{Reason, Refusal};
 use values::value::Span;
 
-// Where a symbol's text lies: nowhere, in the map, or in the system's texts.
+// Where a symbol's text lies: nowhere, in the map, or in the system's texts. Each case tells something: no plainer as an Option.
 #[derive(Clone, Copy, Debug, PartialEq, Eq)]
 pub enum SymbolText {
     Unknown,
     Own(Span),
     System(Span),
 }
+
+// What is refused of a place or a part that is none.
+pub(crate) const OUTSIDE: Refusal = Refusal {
+    reason: Reason::Outside,
+    position: 0,
+};
 
 // The tests before all else: the system's texts, and the limit.
 fn lent_right(system: &[u8], limit: usize) -> Result<(), Refusal>
@@ -56,10 +62,7 @@ pub fn symbols_at(
 {
     lent_right(system, limit)?;
     if outside(map, start, place) || outside(map, place, end) {
-        return Err(Refusal {
-            reason: Reason::Outside,
-            position: 0,
-        });
+        return Err(OUTSIDE);
     }
     let table = ruling_at(map, start, end, place, limit)?;
     own_list(map, table, limit)
@@ -79,10 +82,7 @@ pub fn symbol_text(
 {
     lent_right(system, limit)?;
     if outside(map, start, end) {
-        return Err(Refusal {
-            reason: Reason::Outside,
-            position: 0,
-        });
+        return Err(OUTSIDE);
     }
     text_in(map, id, Some(Span { start, end }), limit)
 }
@@ -105,7 +105,7 @@ pub fn text_of(
 }
 
 // The bytes of that text, as a part of one of the two slices: none where it is unknown or refused.
-#[tactic(auto, using(values::proofs::Tests::tests), unfolding(crate::specs::Text::text_part))]
+#[tactic(auto, using(crate::proofs::Told::parts_told, numbers::proofs::Parts::part_taken), unfolding(crate::specs::Text::text_part))]
 pub fn text_part<'a>(
     map: &'a [u8],
     system: &'a [u8],

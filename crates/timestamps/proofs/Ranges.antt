@@ -7,14 +7,18 @@ use mathlib.Core.Path.{◌≡◌, refl, sym}
 use mathlib.Core.Bool.{Bool, true, false, true≢false}
 use lib.Dec.{eqb, leb, ltb}
 use borrow.Author.Tests.{ne_eqb, eqb-true, eqb-false, ltb-true, ltb-false, le-ltb, leb-false, lt-leb}
+use Rattle.std.specs.Prelude.{Option, None, Some}
+use Rattle.std.specs.Option.{unwrap_or, is_some}
 use Rattle.numbers.specs.Outcome.{pick}
 use Rattle.numbers.proofs.Outcomes.{by_case}
 use Rattle.timestamps.specs.Calendar.{days_in, DaysOf}
 use Rattle.timestamps.specs.Timestamp.{Encoded, out_of, year_out, month_out, day_out, date_out, time_out, fraction_out, offset_out, out_of_range}
 use Rattle.timestamps.specs.TimestampMeaning.{Between, FieldsWithin, FractionWithin, Within}
 use Rattle.timestamps.specs.declared.timestamp.Fields.{Fields}
+use Rattle.timestamps.specs.declared.timestamp.Offset.{Offset}
 use Rattle.timestamps.specs.Timestamp.{Fraction}
-use Rattle.timestamps.specs.Private.Reading.{Filled}
+use Rattle.timestamps.specs.Private.Reading.{Filled, fraction_read}
+use Rattle.timestamps.specs.declared.timestamp.Fraction.{Fraction as Given}
 use Rattle.timestamps.proofs.Gregorian.{months-sound, months-complete, days_most}
 use Rattle.timestamps.proofs.Powers.{power_positive}
 
@@ -161,3 +165,36 @@ day_most {f} l w =
     (λ t.
     let d = w.day (ltb-false f.count 3 t) in
     omega (arith, months-complete f.year f.month d.0 d.1, days_most f.year f.month, d.2.most))
+
+-- the same of what passes the tests, as the tactics are to have it
+module _ (o : Offset) (f : Fields) (x : Fraction) (h : out_of_range (record { offset = o; fields = f; fraction = x }) ≡ false) where
+  pub offset_fits : o.minutes ≤ 1439
+  offset_fits = (within_sound _ h).offset
+
+  pub year_fits : f.year ≤ 9999
+  year_fits = (within_sound _ h).fields.year.most
+
+  pub month_fits : Filled f → f.month ≤ 12
+  month_fits l = month_most l (within_sound _ h).fields
+
+  pub day_fits : Filled f → f.day ≤ 31
+  day_fits l = day_most l (within_sound _ h).fields
+
+  pub hour_fits : f.hour ≤ 23
+  hour_fits = (within_sound _ h).fields.hour
+
+  pub minute_fits : f.minute ≤ 59
+  minute_fits = (within_sound _ h).fields.minute
+
+  pub second_fits : f.second ≤ 59
+  second_fits = (within_sound _ h).fields.second
+
+pub ruleset fields_fit = (offset_fits, year_fits, month_fits, day_fits, hour_fits, minute_fits, second_fits)
+
+-- a fraction by its parts, which are zero where there is none
+abbrev absent : Given
+absent = record { exponent_negative = false; exponent = 0; negative = false; coefficient = 0 }
+
+pub fraction_parts : (x : Option Given) → fraction_read x ≡ record { present = is_some x; exponent_negative = (unwrap_or x absent).exponent_negative; exponent = (unwrap_or x absent).exponent; negative = (unwrap_or x absent).negative; coefficient = (unwrap_or x absent).coefficient }
+fraction_parts None = refl
+fraction_parts (Some f) = refl

@@ -1,12 +1,10 @@
 // Timestamps: a body read into its offset, its fields in UTC and its fraction.
 ghost use Rattle.std.specs.Prelude.{◌≡◌, ◌∷◌, ◌≤◌, ◌^◌, length, leb};
 ghost use Rattle.numbers.specs.Format.{of_digits};
-ghost use Rattle.numbers.specs.Outcome.{and_then};
 ghost use Rattle.numbers.specs.Read.{outcome};
-ghost use Rattle.bodies.specs.Decimal.{decimal};
 ghost use Rattle.timestamps.specs.Timestamp.{date_out, time_out, fraction_out, out_of_range, precision_of, offset_of, ranged};
-ghost use Rattle.timestamps.specs.Timestamp.{fields_from, fraction_from, timestamp, timestamp_read};
-ghost use Rattle.timestamps.specs.Private.Reading.{Filled, fields_given, fields_read, fraction_read, magnitude_answer, measured};
+ghost use Rattle.timestamps.specs.Timestamp.{fields_from, timestamp, timestamp_read};
+ghost use Rattle.timestamps.specs.Private.Reading.{Filled, fields_given, fields_read, fraction_read, magnitude_answer, measured_from};
 
 use crate::calendar::days_in;
 use bodies::decimal;
@@ -87,11 +85,12 @@ fn time_out(fields: Fields) -> bool
 }
 
 // Whether a coefficient is at least ten to the power of `places`.
-#[tactic(auto, using(crate::proofs::Powers::digit_less, crate::proofs::Powers::below_power, crate::proofs::Powers::at_least_one))]
+#[tactic(auto, using(crate::proofs::Powers::digit_passed, crate::proofs::Powers::below_power, crate::proofs::Powers::at_least_one))]
 fn reaches_one(coefficient: u64, places: usize) -> bool
     ensures { result ≡ leb (10 ^ places) coefficient }
 {
     let mut whole = coefficient;
+    // A turn for each digit: there is no slice of them to go over.
     for _ in 0..places {
         if whole == 0 {
             return false;
@@ -125,7 +124,7 @@ fn out_of_range(offset: Offset, fields: Fields, fraction: Option<Fraction>) -> b
     1439 < offset.minutes || date_out(fields) || time_out(fields) || fraction_out(fraction)
 }
 
-// How far a timestamp with so many fields goes.
+// How far a timestamp with so many fields goes. (`as`: six at most, which is proved to fit.)
 #[tactic(auto, unfolding(crate::specs::Timestamp::precision_of))]
 fn precision_of(count: usize, fraction: bool) -> u8
     requires { count ≤ 6 }
@@ -140,7 +139,7 @@ fn precision_of(count: usize, fraction: bool) -> u8
     count as u8
 }
 
-// The offset's minutes and 1440; 0 where it is unknown.
+// The offset's minutes and 1440; 0 where it is unknown. (`as`: 1439 minutes at most, which is proved to fit.)
 #[tactic(auto, unfolding(crate::specs::Timestamp::offset_of))]
 fn offset_of(offset: Offset, count: usize) -> u16
     requires { offset.minutes ≤ 1439 }
@@ -156,7 +155,8 @@ fn offset_of(offset: Offset, count: usize) -> u16
     if minutes == 0 { 0 } else { 1440 - minutes }
 }
 
-// What was read as an answer, where all of it is in range.
+// What was read as an answer, where all of it is in range. (`as`: the ranges say that each field fits, where `try_from` would have an error that never comes.)
+#[tactic(auto, using(crate::proofs::Ranges::fields_fit, crate::proofs::Ranges::fraction_parts), unfolding(crate::specs::Timestamp::ranged, crate::specs::Timestamp::stamp_of))]
 fn answer_in_range(
     descriptor: usize,
     offset: Offset,
@@ -213,6 +213,7 @@ fn read_magnitude(first: u8, rest: &[u8]) -> Option<u64>
 }
 
 // The fraction in the bytes at..end that the fields leave: none where they leave none.
+#[tactic(auto, using(crate::proofs::Stamps::fraction_told, bodies::proofs::Splitting::split_rest), unfolding(crate::specs::Private::Reading::measured_from))]
 fn read_fraction(
     s: &[u8],
     at: usize,
@@ -220,7 +221,7 @@ fn read_fraction(
     descriptor: usize,
 ) -> Result<Option<Fraction>, Refusal>
     requires { (at ≤ end) × (end ≤ length s.now) }
-    ensures { outcome fraction_read result ≡ and_then (decimal s.now at end) (λ d. measured descriptor (fraction_from s.now end at d)) }
+    ensures { outcome fraction_read result ≡ measured_from descriptor s.now end at }
 {
     if at == end {
         return Ok(None);
@@ -252,6 +253,7 @@ struct FieldsRead {
 fn read_fields(s: &[u8], at: usize, end: usize) -> Result<FieldsRead, Refusal>
     ensures { fields_read result ≡ fields_given (fields_from 6 s.now end at) }
 {
+    // Six places, since there is no heap: a stamp has a 0 for each field that was not read.
     let mut values = [0usize; 6];
     let mut count = 0;
     let mut next = at;

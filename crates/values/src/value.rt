@@ -2,8 +2,9 @@
 //
 // Each takes a part of the slice, start..end, the position in it of the value's wrapper or descriptor, and the most bytes that a value's annotations may have:
 // five parameters and no struct of them, since the exports to C hand them on as they came.
-ghost use Rattle.std.specs.Prelude.{◌≡◌, ◌≤◌, ◌<◌, length, false, eqb};
+ghost use Rattle.std.specs.Prelude.{◌≡◌, ◌≤◌, ◌<◌, length, false, eqb, IfOk};
 ghost use Rattle.numbers.specs.Outcome.{gives, pick};
+ghost use Rattle.numbers.specs.Read.{outcome};
 ghost use Rattle.timestamps.specs.Timestamp.{timestamp};
 ghost use Rattle.framing.specs.Read.{framed_read, spans_of};
 ghost use Rattle.stepping.specs.Read.{item_read};
@@ -76,7 +77,7 @@ pub struct ValueRead {
     pub scalar: Result<Scalar, Refusal>,
 }
 
-// What a value is read as where timestamps are read.
+// What a value is read as where timestamps are read. Each case tells something: no plainer as an Option.
 #[derive(Clone, Copy, Debug, PartialEq, Eq)]
 pub enum TimestampRead {
     // A timestamp: where its descriptor stands, and what it says.
@@ -108,7 +109,7 @@ fn value_of(at: usize, item: Result<Item, Refusal>) -> Result<EncodedValue, Refu
 }
 
 // The value at `at` in the part start..end: what a step in a sequence answers there, but that a pad is refused.
-#[tactic(auto, using(crate::proofs::Valued::tested))]
+#[tactic(auto, using(crate::proofs::Valued::tested, crate::proofs::Valued::in_slice))]
 pub fn value_in(
     s: &[u8],
     start: usize,
@@ -239,6 +240,8 @@ fn read_negative(s: &[u8], value: EncodedValue) -> Result<Scalar, Refusal>
     })
 }
 
+// Four bytes are proved to fit a `u32`. That takes what each byte is at most, which is known of a slice that is a parameter and not of one in a struct: so this is
+// no method of `Placed`, and has its facts as a `requires`.
 #[tactic(auto, using(crate::proofs::Tests::tests), unfolding(crate::specs::Scalars::float_of))]
 fn read_float(s: &[u8], value: EncodedValue) -> Scalar
     requires { (value.body ≤ value.end) × (value.end ≤ length s.now) }
@@ -289,6 +292,22 @@ struct Placed<'a> {
 }
 
 impl<'a> Placed<'a> {
+    // The value at `at` in the part start..end.
+    #[tactic(auto, using(crate::proofs::Reading::framed_order, crate::proofs::Reading::framed_within))]
+    fn at(
+        s: &'a [u8],
+        start: usize,
+        end: usize,
+        at: usize,
+        limit: usize,
+    ) -> Result<Placed<'a>, Refusal>
+        ensures value { outcome (λ p. spans_of p.value) result ≡ value_in limit s.now start end at }
+        ensures slice { IfOk result (λ p. p.s.now ≡ s.now) }
+    {
+        let value = value_in(s, start, end, at, limit)?;
+        Ok(Placed { s, value })
+    }
+
     #[tactic(auto, using(crate::proofs::Tests::tests), unfolding(crate::specs::Scalars::symbol_of))]
     fn symbol(self) -> Result<Scalar, Refusal>
         ensures { scalar_read result ≡ symbol_of self.entry.s.now (spans_of self.entry.value) }
@@ -356,7 +375,7 @@ impl<'a> Placed<'a> {
 }
 
 // Reads a value whose places are known.
-#[tactic(auto, using(crate::proofs::Tests::tests), unfolding(crate::specs::Scalars::scalar_in))]
+#[tactic(auto, using(numbers::proofs::Outcomes::inside_order, numbers::proofs::Outcomes::inside_end), unfolding(crate::specs::Scalars::scalar_in))]
 pub fn read_placed(s: &[u8], value: EncodedValue) -> Result<Scalar, Refusal>
     ensures { scalar_read result ≡ scalar_in s.now (spans_of value) }
 {
@@ -380,9 +399,11 @@ pub fn read_with_value(
 ) -> Result<ValueRead, Refusal>
     ensures { value_read result ≡ read_with_value limit s.now start end at }
 {
-    let value = value_in(s, start, end, at, limit)?;
-    let scalar = Placed { s, value }.scalar();
-    Ok(ValueRead { value, scalar })
+    let placed = Placed::at(s, start, end, at, limit)?;
+    Ok(ValueRead {
+        value: placed.value,
+        scalar: placed.scalar(),
+    })
 }
 
 // Reads the value at `at`.
@@ -390,8 +411,7 @@ pub fn read_with_value(
 pub fn read(s: &[u8], start: usize, end: usize, at: usize, limit: usize) -> Result<Scalar, Refusal>
     ensures { scalar_read result ≡ read_scalar limit s.now start end at }
 {
-    let value = value_in(s, start, end, at, limit)?;
-    Placed { s, value }.scalar()
+    Placed::at(s, start, end, at, limit)?.scalar()
 }
 
 // Reads the value at `at`, and what it says where it is a timestamp.
@@ -405,8 +425,7 @@ pub fn read_timestamp(
 ) -> Result<TimestampRead, Refusal>
     ensures { dated_read result ≡ read_timestamp limit s.now start end at }
 {
-    let value = value_in(s, start, end, at, limit)?;
-    Placed { s, value }.timestamp()
+    Placed::at(s, start, end, at, limit)?.timestamp()
 }
 
 // The span of a reading's part, which is empty where it has none or is refused.
@@ -431,7 +450,7 @@ fn span_of(scalar: Result<Scalar, Refusal>) -> Span
 
 // The bytes of that reading's part of the slice: a string's, clob's, blob's, decimal's or timestamp's body, or an int's
 // magnitude; none where it refuses or has no part.
-#[tactic(auto, using(crate::proofs::Tests::tests), unfolding(crate::specs::Scalars::scalar_part))]
+#[tactic(auto, using(crate::proofs::Reading::span_order, crate::proofs::Reading::span_within, numbers::proofs::Parts::part_taken), unfolding(crate::specs::Scalars::scalar_part))]
 pub fn read_part(s: &[u8], start: usize, end: usize, at: usize, limit: usize) -> &[u8]
     ensures { result.now ≡ scalar_part limit s.now start end at }
 {
