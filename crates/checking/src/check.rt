@@ -78,6 +78,7 @@ fn check_value(
 }
 
 // Checks a whole map: what it holds, or the first refusal.
+#[tactic(auto, using(walking::proofs::Depths::in_limit, crate::proofs::Unrolled::whole))]
 pub fn check_map(s: &[u8], limit: usize, deepest: usize) -> Result<Counts, Refusal>
     ensures { checked_read result ≡ check_of limit deepest s.now }
 {
@@ -94,6 +95,7 @@ pub fn check_map(s: &[u8], limit: usize, deepest: usize) -> Result<Counts, Refus
 }
 
 // Checks a body by itself, whose containers may be `room` deeper.
+#[tactic(auto, using(crate::proofs::Unrolled::body), unfolding(crate::specs::Body::limited_body, crate::specs::Body::body_check))]
 pub fn check_body(s: &[u8], rules: Rules, room: usize, limit: usize) -> Result<(), Refusal>
     ensures { done_read result ≡ limited_body limit room rules s.now }
 {
