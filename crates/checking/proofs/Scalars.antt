@@ -1,8 +1,8 @@
--- What is read of a value, in the steps that the code takes: its IDs, its scalar, and what that leaves to be read, which for most types is nothing.
+-- What is read of a value, in the steps that the code takes: the scalar behind its IDs, and whether it opens; as the tactics are to have it.
 -- Assumes nothing.
 use Prim.Native.Nat.{ℕ, ◌≤◌}
 use native.Mathlib.Omega.{arith}
-use mathlib.Core.Path.{◌≡◌, ◌∙◌, ap}
+use mathlib.Core.Path.{◌≡◌, ap}
 use mathlib.Core.Bool.{true, false, not}
 use mathlib.Core.List.{List}
 use lib.ListN.{length}
@@ -11,19 +11,14 @@ use Rattle.numbers.specs.Outcome.{Outcome, gives, refuses, and_then}
 use Rattle.numbers.proofs.Outcomes.{by_case, within_part, refuse_gives}
 use Rattle.framing.specs.Spans.{Spans}
 use Rattle.values.specs.Scalars.{is_container, body_rules, Opened, opened, Scalar, scalar_in}
-use Rattle.checking.specs.Reading.{done, read_body, read_ids, read_content, read_item}
+use Rattle.checking.specs.Reading.{read_body, read_content}
 use Rattle.values.proofs.Tests.{tests}
 use Rattle.checking.proofs.Bounding.{place_small}
 
 module _ (s : List ℕ) (v : Spans) where
-  -- behind its IDs its scalar is read
-  pub item-read : v.body ≤ v.end → v.end ≤ length s → read_ids s v.annotations v.descriptor ≡ gives done → and_then (scalar_in s v) (read_body s v.descriptor) ≡ read_item s v
-  unfolding read_item read_content scalar_in
-  item-read l m e = ap (λ (o : Outcome Scalar). and_then o (read_body s v.descriptor)) (within_part s v.body v.end l m) ∙ rw e
-
-  pub ids_refused : {number position : ℕ} → read_ids s v.annotations v.descriptor ≡ refuses number position → refuses number position ≡ read_item s v
-  unfolding read_item
-  ids_refused e = rw e
+  pub content-read : v.body ≤ v.end → v.end ≤ length s → and_then (scalar_in s v) (read_body s v.descriptor) ≡ read_content s v
+  unfolding read_content scalar_in
+  content-read l m = ap (λ (o : Outcome Scalar). and_then o (read_body s v.descriptor)) (within_part s v.body v.end l m)
 
 -- a body that opens is a container's, with its rules; what does not is none
 module _ (v : Spans) where
@@ -42,3 +37,5 @@ module _ (v : Spans) where
   opens_not number position h = by_case (is_container v) (λ e. absurd (let q = rw e at h in let z : ◌≡◌ {A = ℕ} 0 1 = cc in omega arith)) (λ e. e)
 
 pub ruleset heads = (tests, place_small, opens, opens_by, opens_not)
+
+pub ruleset contents = (content-read)

@@ -31,6 +31,7 @@ pub(crate) struct Map<'a> {
 }
 
 // Reads each annotation ID of the bytes start..end.
+#[tactic(auto, using(crate::proofs::Ids::ids))]
 pub fn read_ids(s: &[u8], start: usize, end: usize) -> Result<(), Refusal>
     ensures { done_read result ≡ read_ids s.now start end }
 {
@@ -67,6 +68,7 @@ pub fn read_body(
 }
 
 // Reads a value: its annotation IDs, then its scalar.
+#[tactic(auto, using(crate::proofs::Scalars::contents), unfolding(crate::specs::Reading::read_item))]
 pub(crate) fn read_item(s: &[u8], value: EncodedValue) -> Result<(), Refusal>
     requires { (value.body ≤ value.end) × (value.end ≤ length s.now) }
     ensures { done_read result ≡ read_item s.now (spans_of value) }
