@@ -34,7 +34,7 @@ pub struct Part {
 }
 
 // Where a walk is: the parts that it is in, by depth; its depth and its position. `deep`: the container at the position was handed out and is too deep to
-// enter. The parts are an array of a fixed length: there is no heap.
+// enter, a flag by itself, beside no value that it speaks of. The parts are an array of a fixed length, here and where a walk starts: there is no heap.
 #[derive(Clone, Copy)]
 pub struct Walk {
     pub parts: [Part; PARTS],

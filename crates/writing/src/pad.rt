@@ -26,7 +26,7 @@ struct Pad {
 
 impl Pad {
     // None where the size is none, or nine bytes don't give it.
-    #[tactic(auto, using(crate::proofs::Pads::fields))]
+    #[tactic(auto, using(std::proofs::lemmas::Bool::Decides::nat_tests, crate::proofs::Pads::fields), unfolding(crate::specs::Answers::no_pad))]
     fn new(size: usize) -> Option<Pad>
         ensures { MatchOption result (no_pad size ≡ true) (λ p. p.size ≡ size) }
     {
