@@ -2,9 +2,9 @@
 -- Assumes nothing.
 use Prim.Native.Nat.{ℕ, zero, suc, ◌-◌, ◌/◌, ◌≤◌, ◌<◌}
 use native.Mathlib.Omega.{arith}
-use borrow.Author.Tests.{ltb-true, eq-eqb, ne_eqb}
+use borrow.Author.Tests.{ltb-true, ltb-false, eq-eqb, ne_eqb, not-false}
 use mathlib.Core.Path.{◌≡◌, refl, ◌∙◌, sym, ap}
-use mathlib.Core.Bool.{Bool, true, false, true≢false}
+use mathlib.Core.Bool.{Bool, true, false, not, true≢false}
 use mathlib.Core.List.{List, [], ◌∷◌}
 use lib.ListN.{length, get_or, take, drop, length-drop}
 use lib.Seq.{take_all}
@@ -42,9 +42,18 @@ unfolding limited_body
 body_limited limit room rules body h = rw h
 
 -- a container's type has one of the three codes
-pub container_below : (type : ℕ) → is_container type ≡ true → type < 14
+pub record Contains (type : ℕ) : Type 0 where
+  pub low : 11 ≤ type
+  pub high : type ≤ 13
+
+pub contains : (type : ℕ) → not (is_container type) ≡ false → Contains type
 unfolding is_container
-container_below type = by_test (λ (b : Bool). b ≡ true → type < 14) (ltb type 11) (λ _ h. absurd (true≢false (sym h))) (λ _ h. ltb-true type 14 h)
+contains type =
+    by_test (λ (b : Bool). not b ≡ false → Contains type) (ltb type 11) (λ _ h. absurd (true≢false h)) (λ a h.
+    record { low = ltb-false type 11 a; high = omega (arith, ltb-true type 14 (not-false (ltb type 14) h)) })
+
+pub container_below : (type : ℕ) → is_container type ≡ true → type < 14
+container_below type h = omega (arith, (contains type (ap not h)).high)
 
 pub ruleset stages = (body_limited, in_limit, depth_some, container_below)
 
