@@ -1,4 +1,6 @@
 // A step that counts the pads that it passes and the names that it begins to read, and comes back behind as many pads as it may pass.
+//
+// A part's rules, its slice, a position and the limit are parameters of their own, as in `stepping`.
 ghost use Rattle.std.specs.Prelude.{◌≡◌};
 ghost use Rattle.numbers.specs.Refusals.{number_of};
 ghost use Rattle.counting.specs.Pads.{begins_pad};
@@ -20,7 +22,7 @@ pub struct Counted {
     pub names: usize,
 }
 
-// What a bounded step answers.
+// What a bounded step answers. Both cases tell something, so an `Option` would be no plainer.
 #[derive(Clone, Copy, Debug, PartialEq, Eq)]
 pub enum Bounded {
     // The answer of the step, which met its bound nowhere.
@@ -101,6 +103,7 @@ pub fn bounded_at(
     let mut from = at;
     let mut pads = 0;
     let mut names = 0;
+    // No index is counted: behind a pad it goes on where the pad ends.
     while from < end {
         names += 1;
         let name = match read_name(rules, s, from, end) {

@@ -68,6 +68,7 @@ fn check_wrapper(
 }
 
 // The wrapper that begins here.
+#[inline(always)]
 #[tactic(auto, using(std::proofs::lemmas::Bool::Decides::nat_tests), unfolding(crate::specs::Answers::wrapper_at, crate::specs::Answers::annotations_at))]
 pub(crate) fn read_wrapper(place: Described, limit: usize) -> Result<AnnotationsWrapper, Refusal>
     ensures { wrapper_read result ≡ wrapper_at limit place.entry.s.now place.entry.at place.entry.end place.entry.descriptor }

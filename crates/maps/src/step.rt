@@ -21,7 +21,7 @@ use records::words::{
     LIMIT_OUT_OF_RANGE, OUTSIDE, bare_words, end_words, item_words, refused_words,
 };
 use std::ops::ControlFlow;
-use stepping::cursor::{Name, Rules, item_from, left_by, read_name, rules_of};
+use stepping::cursor::{Name, Rules, item_from, left_by, rules_of, short_name};
 
 // The last of the kinds of a part. The kind is tested beside the places, and not by `Rules::try_from`, which takes a step some 8 instructions more.
 const LAST_KIND: u64 = 2;
@@ -46,7 +46,7 @@ pub fn part_rules(
     Ok(rules_of(kind))
 }
 
-// Puts the record of whatever stands behind a name and is no short value.
+// Puts the record of whatever is no short value behind a short name; a name that was read is not read again.
 fn put_long(
     rules: Rules,
     map: &[u8],
@@ -93,18 +93,17 @@ pub fn put_step(
     if end <= at {
         return ControlFlow::Break(put_record(out, end_words(end)));
     }
-    match read_name(rules, map, at, end) {
-        Ok(name) => match short_value(map, name.next, end) {
-            Some(length) => {
-                let past = length.body + length.size;
-                put_record(
-                    out,
-                    bare_words(rules, at, name, map[name.next], length, past),
-                );
-                ControlFlow::Continue(past)
-            }
-            None => put_long(rules, map, at, name, end, limit, out),
-        },
-        Err(refusal) => ControlFlow::Break(put_record(out, refused_words(refusal))),
+    let short = short_name(rules, map, at, end);
+    if let Some(name) = short {
+        if let Some(length) = short_value(map, name.next, end) {
+            let past = length.body + length.size;
+            put_record(
+                out,
+                bare_words(rules, at, name, map[name.next], length, past),
+            );
+            return ControlFlow::Continue(past);
+        }
     }
+    let name = short.unwrap_or(Name { id: 0, next: at });
+    put_long(rules, map, at, name, end, limit, out)
 }

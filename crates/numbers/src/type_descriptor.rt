@@ -21,6 +21,7 @@ pub struct TypeDescriptor {
 }
 
 // The kind of a byte.
+#[tactic(auto, using(std::proofs::lemmas::Bool::Decides::nat_tests), unfolding(crate::specs::Descriptor::kind_of))]
 fn kind_of(byte: u8) -> Kind
     ensures { result ≡ kind_of (byte / 16) (byte % 16) }
 {
@@ -43,7 +44,7 @@ fn kind_of(byte: u8) -> Kind
 }
 
 impl TypeDescriptor {
-    // The descriptor that a byte stands for.
+    // The descriptor that a byte stands for: ion-rust's name for it, and no `From`.
     pub fn from_byte(byte: u8) -> Self
         ensures { result ≡ descriptor_of byte }
     {

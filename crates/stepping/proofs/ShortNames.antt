@@ -1,0 +1,34 @@
+-- A short field ID with something behind it is a name, and no other is said.
+-- Assumes nothing.
+use Prim.Native.Nat.{ℕ, ◌+◌, ◌<◌}
+use native.Mathlib.Omega.{arith}
+use borrow.Author.Tests.{eq-eqb, ne_eqb, lt-leb}
+use mathlib.Core.Path.{◌≡◌, refl, sym}
+use mathlib.Core.Bool.{false}
+use lib.Dec.{eqb}
+use Rattle.numbers.specs.Outcome.{Outcome, gives, refuses, and_then}
+use Rattle.numbers.specs.Answers.{Unsigned}
+use Rattle.numbers.specs.ShortVarUInt.{short_bytes, short, none, short_var_uint_of}
+use Rattle.numbers.proofs.Outcomes.{by_case, Each, given, refused}
+use Rattle.numbers.proofs.ShortVarUInts.{short_given, given_short, short_near, none_long}
+use Rattle.stepping.specs.Names.{followed}
+
+module _ (at end : ℕ) where
+  -- something follows it
+  pub short_named : (o : Outcome Unsigned) {u : Unsigned} → short_var_uint_of at o ≡ short u → eqb u.next end ≡ false → short u ≡ short_var_uint_of at (and_then o (followed end))
+  unfolding followed
+  short_named o {u} e f = rw (short_given at o e, f) (sym (given_short at {o = gives u} refl (short_near at o e)))
+
+  -- nothing does
+  pub short_unfollowed : (o : Outcome Unsigned) {u : Unsigned} → short_var_uint_of at o ≡ short u → u.next ≡ end → none ≡ short_var_uint_of at (and_then o (followed end))
+  unfolding followed
+  short_unfollowed o {u} e q = rw (short_given at o e, eq-eqb u.next end q)
+
+  -- it is longer, or refused
+  unsaid : (o : Outcome Unsigned) → Each (λ (u : Unsigned). at + short_bytes < u.next) o → none ≡ short_var_uint_of at (and_then o (followed end))
+  unfolding followed
+  unsaid (gives u) (given h) = by_case (eqb u.next end) (λ e. rw e) (λ e. rw (e, lt-leb u.next (at + short_bytes) h))
+  unsaid (refuses n p) refused = refl
+
+  pub short_unsaid : (o : Outcome Unsigned) → short_var_uint_of at o ≡ none → none ≡ short_var_uint_of at (and_then o (followed end))
+  short_unsaid o e = unsaid o (none_long at o e)
