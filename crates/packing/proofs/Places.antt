@@ -39,7 +39,7 @@ pub record HandedOut (limit : ℕ) (s : List ℕ) (at hi from : ℕ) (v : Spans)
   pub bodied : v.descriptor < v.body
   pub ended : v.body ≤ v.end
   pub within : v.end ≤ hi
-  pub inside : hi ≤ length s
+  pub in_map : v.end ≤ length s
   pub short : length (value_bytes limit s from v) ≤ v.end - from
 
 -- ---- sizes
@@ -111,7 +111,7 @@ module _ (limit : ℕ) (s : List ℕ) (v : Spans) (h : v.end ≤ length s) where
         bodied = r.bodied;
         ended = r.ended;
         within = e.0;
-        inside = e.1;
+        in_map = h;
         short = adds (length (value_bytes limit s from v)) v.start from x v.end a q r.size r.start named (omega (arith, r.near, r.order, r.bodied, r.ended));
       }
     where
@@ -151,3 +151,12 @@ unfolding step_of
 answer_lies limit rules s at hi x e =
     let f = steps-sound limit rules s (cursor at hi) in
     stands_lie (skips_on f.1) f.2 x e
+
+pub marker_lies : (limit : ℕ) (rules : Rules) (s : List ℕ) (at hi a x y e : ℕ) → gives (marker a x y e) ≡ answer_at limit rules s at hi → (at + 4 ≤ e) × (e ≤ hi)
+marker_lies limit rules s at hi a x y e h = answer_lies limit rules s at hi (marker a x y e) (sym h)
+
+pub value_lies : (limit : ℕ) (rules : Rules) (s : List ℕ) (at hi : ℕ) (v : Spans) → gives (value v) ≡ answer_at limit rules s at hi → HandedOut limit s at hi v.start v
+value_lies limit rules s at hi v h = answer_lies limit rules s at hi (value v) (sym h)
+
+pub field_lies : (limit : ℕ) (rules : Rules) (s : List ℕ) (at hi id a : ℕ) (v : Spans) → gives (field id a v) ≡ answer_at limit rules s at hi → HandedOut limit s at hi a v
+field_lies limit rules s at hi id a v h = answer_lies limit rules s at hi (field id a v) (sym h)

@@ -49,7 +49,7 @@ impl<'a> Part<'a> {
     }
 
     // What the step at `at` meets. At the part's end nothing.
-    #[tactic(auto, using(crate::proofs::Unrolled::step_bytes))]
+    #[tactic(auto, using(crate::proofs::Unrolled::step_bytes, crate::proofs::Places::marker_lies, crate::proofs::Places::value_lies, crate::proofs::Places::field_lies))]
     pub(crate) fn meet(&self, at: usize) -> Option<Met<'a>>
         ensures meets { left_bytes self.now at ≡ met_bytes self.now result }
         ensures fits { MetFits self.now at result }
