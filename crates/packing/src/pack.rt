@@ -119,7 +119,7 @@ impl<'a> Part<'a> {
 }
 
 // Packs a map that is accepted into the buffer, where it fits.
-#[tactic(auto, using(crate::proofs::Buffers::size_is, crate::proofs::Buffers::no_room, crate::proofs::Buffers::has_room, crate::proofs::Buffers::not_packed, crate::proofs::Buffers::left_alone, crate::proofs::Buffers::filled))]
+#[tactic(auto, using(crate::proofs::Buffers::size_is, crate::proofs::Buffers::not_packed, crate::proofs::Buffers::left_not_packed))]
 pub fn pack(s: &[u8], limit: usize, deepest: usize, out: &mut [u8]) -> Result<usize, Refusal>
     ensures result_value { size_read result ≡ pack_of limit deepest s.now (length out.old) }
     ensures out_after { out.new ≡ buffer_of limit deepest s.now out.old }

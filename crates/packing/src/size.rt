@@ -145,7 +145,7 @@ impl<'a> Entry<'a> {
 }
 
 // How many bytes a map has once it is packed.
-#[tactic(auto, using(crate::proofs::Buffers::size_accepted, crate::proofs::Buffers::size_refused))]
+#[tactic(auto, using(crate::proofs::Buffers::size_refused))]
 pub fn packed_size(s: &[u8], limit: usize, deepest: usize) -> Result<usize, Refusal>
     ensures { size_read result ≡ size_of limit deepest s.now }
 {
