@@ -1,4 +1,5 @@
-// The exported bounded step: it comes back behind a largest number of pads. Its parameters, a kind as a number among them, and the number returned are C's.
+// The exported bounded step: it comes back behind a largest number of pads. Its parameters, a kind as a number among them, and the number returned are C's,
+// and are handed on as they came.
 ghost use Rattle.std.specs.Prelude.{◌≡◌};
 ghost use Rattle.counting.specs.Read.{bounded_read};
 ghost use Rattle.records.specs.Buffer.{record_in, returned_by};

@@ -15,7 +15,7 @@ use Rattle.stepping.specs.Names.{item_by}
 use Rattle.stepping.specs.declared.cursor.Rules.{Rules}
 use Rattle.stepping.specs.declared.cursor.Rules.TheVariants.{Stream, Sequence, Fields}
 use Rattle.records.specs.Buffer.{record_size, record_in, returned, returned_by, answered, number_of}
-use Rattle.records.specs.Words.{words}
+use Rattle.records.specs.Words.{words, refused_words}
 use Rattle.records.proofs.Numbers.{returned-by, step_number}
 use Rattle.maps.specs.Put.{put_by}
 
@@ -54,6 +54,17 @@ module _ (old : List ℕ) {o p : Outcome Item} {n : ℕ} {new ws : List ℕ} (q 
         ∙ ap (λ x. put_by x old) q;
     out_after = record_put;
   }
+
+-- a refusal whose words were put
+pub refused_put : (o : Outcome Item) (old : List ℕ) {n p : ℕ} → o ≡ refuses n p → put_by o old ≡ Break (returned_by (refused_words n p) old)
+refused_put o old e = rw e
+
+-- any other one, by where it leaves its caller
+pub left_put : (o : Outcome Item) (old : List ℕ) {k : ℕ} → left_of o ≡ Some k → put_by o old ≡ Continue k
+left_put o old {k} e = ap (λ (l : Option ℕ). on_left l (Break (returned_by (words o) old)) (λ k. Continue k)) e
+
+pub over_put : (o : Outcome Item) (old : List ℕ) → left_of o ≡ None → put_by o old ≡ Break (returned_by (words o) old)
+over_put o old e = ap (λ (l : Option ℕ). on_left l (Break (returned_by (words o) old)) (λ k. Continue k)) e
 
 -- ---- and back
 

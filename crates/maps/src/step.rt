@@ -47,6 +47,7 @@ pub fn part_rules(
 }
 
 // Puts the record of whatever is no short value behind a short name; a name that was read is not read again.
+#[tactic(auto, using(crate::proofs::Putting::left_put, crate::proofs::Putting::over_put))]
 fn put_long(
     rules: Rules,
     map: &[u8],
@@ -73,6 +74,7 @@ fn put_long(
 
 // Puts the record of the step at `at`, and tells where the step leaves its caller: at the next step, or nowhere, with the number that its call returns. The end
 // and a short value are read here. Each answer's words are put by themselves: one place for all of them would build the words in memory and copy them.
+#[tactic(auto, using(crate::proofs::Putting::refused_put, crate::proofs::Putting::over_put, crate::proofs::Within::refused_unranged, crate::proofs::Within::refused_outside, stepping::proofs::Moves::moves_end, numbers::proofs::Outcomes::inside_order, numbers::proofs::Outcomes::inside_end))]
 pub fn put_step(
     rules: Rules,
     map: &[u8],

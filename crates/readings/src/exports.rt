@@ -1,7 +1,8 @@
 // The exported readings of what a step hands out: an annotation, the body of a container, a scalar, a number. The caller lends a buffer for the answer's
 // record.
 //
-// `limit` is the most bytes that a value's annotations may have. The parameters, a form as a number among them, and the numbers returned are C's.
+// `limit` is the most bytes that a value's annotations may have. The parameters, a form as a number among them, and the numbers returned are C's, and are
+// handed on as they came.
 ghost use Rattle.std.specs.Prelude.{◌≡◌};
 ghost use Rattle.framing.specs.Read.{annotation_read};
 ghost use Rattle.values.specs.Scalars.{step_in, read_scalar, read_with_value};

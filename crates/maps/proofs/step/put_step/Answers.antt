@@ -15,11 +15,9 @@ use Rattle.framing.specs.Answers.{read_value}
 use Rattle.framing.specs.ShortValue.{short_value, bare_spans, short_value_of}
 use Rattle.framing.specs.Read.{short_value_read}
 use Rattle.framing.proofs.ShortValues.{short_bounds}
-use Rattle.stepping.specs.Items.{finish}
 use Rattle.stepping.specs.Answers.{answer_at}
 use Rattle.stepping.specs.Names.{name_at, answer_from}
 use Rattle.stepping.specs.Read.{name_of, short_name_read}
-use Rattle.stepping.proofs.Moves.{moves_end}
 use Rattle.stepping.proofs.Naming.{answer_unread}
 use Rattle.stepping.proofs.Plain.{NameIn, name_in, named_stepped, short_stepped}
 use Rattle.records.specs.Buffer.{record_in}
@@ -28,8 +26,7 @@ use Rattle.records.proofs.BareWords.{bare-words}
 use Rattle.numbers.proofs.Outcomes.{in_part}
 use Rattle.numbers.proofs.ShortVarUInts.{short_given}
 use Rattle.maps.specs.Put.{put_by}
-use Rattle.maps.proofs.Putting.{value_leaves, put_at, put_over}
-use Rattle.maps.proofs.Within.{refused_unranged, refused_outside}
+use Rattle.maps.proofs.Putting.{value_leaves, put_at}
 use Rattle.maps.proofs.step.put_step.Goals as goal
 use Rattle.maps.proofs.step.put_step.Goals.{in-Some+in_default-short_value, in_default, In-Some, In-Some-short_value}
 
@@ -53,23 +50,6 @@ short b =
     let a = b.args in
     let n = b.in-Some.name.next in
     sym (b.short_value.ensures a.limit) ∙ ap (short_value_read (get_or a.map.now n 0) n) b.in-Some-short_value.is
-
-pub returns-then-out_of_range : goal.returns-then-out_of_range
-returns-then-out_of_range c =
-    let a = c.args in
-    put_over a.out.now (sym (refused_unranged a.limit a.rules a.map.now a.at a.end (sym c.out_of_range.ensures ∙ c.if-out_of_range.true))) c.refused_words.ensures c.put_record.ensures refl
-
-pub returns-then-outside : goal.returns-then-outside
-returns-then-outside c =
-    let a = c.args in
-    put_over a.out.now (sym (refused_outside a.limit a.rules a.map.now a.at a.end (sym c.out_of_range.ensures ∙ c.if-out_of_range.false) (sym c.outside.ensures ∙ c.if-outside.true))) c.refused_words-then-outside.ensures c.put_record-then-outside.ensures refl
-
-pub returns-then-end-at : goal.returns-then-end-at
-returns-then-end-at c =
-    let a = c.args in
-    let e : a.at ≡ a.end = omega (arith, c.if-end-at.true, (in_part _ _ _ c.outside.ensures c.if-outside.false).0) in
-    let f : gives (finish a.end) ≡ answer_at a.limit a.rules a.map.now a.at a.end = sym (ap (λ (k : ℕ). answer_at a.limit a.rules a.map.now k a.end) e ∙ moves_end a.limit a.rules a.map.now a.end (in_part _ _ _ c.outside.ensures c.if-outside.false).1 (sym c.out_of_range.ensures ∙ c.if-out_of_range.false)) in
-    put_over a.out.now f c.end_words.ensures c.put_record-then-end-at.ensures refl
 
 pub overflow_add-past : goal.overflow_add-past
 overflow_add-past c =
