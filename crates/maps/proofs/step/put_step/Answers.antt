@@ -1,7 +1,7 @@
 -- `put_step` meets its contract: the end, a short value behind its name, or what else stands there, is what the step answers, and its words are put.
 use native.Mathlib.Omega.{arith}
 use Prim.Native.Nat.{ℕ, ◌+◌}
-use mathlib.Core.Path.{◌≡◌, refl, ◌∙◌, sym, ap}
+use mathlib.Core.Path.{◌≡◌, ◌∙◌, sym, ap}
 use mathlib.Core.List.{List}
 use lib.ListN.{get_or}
 use Rattle.std.specs.Prelude.{Option, Some, None}
