@@ -1,4 +1,5 @@
-// Packs a map into a lent buffer: what `size.rt` gives the size of, written.
+// Packs a map into a lent buffer: what `size.rt` gives the size of, written. The buffer and the position in it are two parameters, as `encoding` takes them:
+// there is no heap, and C lends the buffer.
 //
 // `limit` is the most bytes that a value's annotations may have, `deepest` the depth at which a container is too deep.
 ghost use Rattle.std.specs.Prelude.{◌≡◌, [], ◌∷◌, ◌+◌, ◌-◌, ◌≤◌, length};

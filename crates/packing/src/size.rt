@@ -81,7 +81,8 @@ impl<'a> Part<'a> {
     }
 
     // How many bytes it takes. This walk and that of `pack` stay two: a container's size is needed before its body is put, while a size adds up what is inside
-    // as it goes. One walk over a sink would walk each inside twice to get a size, at every depth again.
+    // as it goes. One walk over a sink would walk each inside twice to get a size, at every depth again. Neither is a `for`: a step begins where what was met
+    // ends.
     #[cycle(sizes)]
     #[tactic(auto, using(crate::proofs::Places::part_sizes))]
     pub(crate) fn size(&self) -> usize
