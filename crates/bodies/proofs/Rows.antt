@@ -4,7 +4,7 @@ use Prim.Native.Nat.{ℕ, zero, suc, ◌+◌, ◌-◌, ◌≤◌, ◌<◌}
 use native.Mathlib.Omega.{arith}
 use native.Mathlib.Nat.{eq-or-lt_of_le, le_of_suc-le-suc}
 use mathlib.Core.Path.{◌≡◌, refl, ◌∙◌, sym, ap, ap₂}
-use mathlib.Core.Logic.{◌⊎◌, inl, inr, ⊎_elim}
+use mathlib.Core.Logic.{⊎_elim}
 use mathlib.Core.Bool.{Bool, true, false, true≢false}
 use mathlib.Core.Option.{Option, none, some}
 use mathlib.Core.List.{List, [], ◌∷◌}
@@ -187,9 +187,13 @@ module _ (s : List ℕ) (from end count : ℕ) (k : from + count ≤ end) (l : e
       rw (e, q)
       (wanted_in s (from + i) end (omega arith) l (count - i) low high (omega arith) (omega (arith, taken_at i h)) (omega (arith, taken_at i h)))
 
-  pub wanted_stop : (i low high : ℕ) → i < count → let b = get_or (take (from + count - from) (drop from s)) i 0 in (b < low) ⊎ (high < b) → goes_on (part s (from + i) end) (wanted (count - i) low high) ≡ false
-  wanted_stop i low high h (inl a) = wanted_below s (from + i) end (omega arith) l (count - i) low high (omega arith) (omega (arith, taken_at i h))
-  wanted_stop i low high h (inr a) = wanted_above s (from + i) end (omega arith) l (count - i) low high (omega arith) (omega (arith, taken_at i h))
+  pub wanted_low : (i low high : ℕ) → i < count → get_or (take (from + count - from) (drop from s)) i 0 < low → goes_on (part s (from + i) end) (wanted (count - i) low high) ≡ false
+  wanted_low i low high h a = wanted_below s (from + i) end (omega arith) l (count - i) low high (omega arith) (omega (arith, taken_at i h))
+
+  pub wanted_high : (i low high : ℕ) → i < count → high < get_or (take (from + count - from) (drop from s)) i 0 → goes_on (part s (from + i) end) (wanted (count - i) low high) ≡ false
+  wanted_high i low high h a = wanted_above s (from + i) end (omega arith) l (count - i) low high (omega arith) (omega (arith, taken_at i h))
+
+pub ruleset wanted_on = (wanted_step, wanted_low, wanted_high, wanted_short)
 
 -- nothing more is well-formed
 pub ends_well : (s : List ℕ) (end : ℕ) → well_formed (part s end end) ≡ true

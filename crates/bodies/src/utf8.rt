@@ -3,7 +3,8 @@ ghost use Rattle.std.specs.Prelude.{◌≡◌, ◌≤◌, ◌<◌, length, get_o
 ghost use Rattle.bodies.specs.Utf8.{utf8};
 ghost use Rattle.bodies.specs.Private.Sequence.{behind_of, Follows, Ends};
 
-// The bytes that are wanted behind a lead byte: how many they are, and the range of the first one. The others are 80 to BF.
+// The bytes that are wanted behind a lead byte: how many they are, and the range of the first one. The others are 80 to BF. (`count`
+// is of bytes in the text: no list of them stands beside it.)
 #[derive(Clone, Copy)]
 struct Wanted {
     count: usize,
@@ -30,7 +31,7 @@ fn behind(lead: u8) -> Option<Wanted>
 }
 
 // Where the bytes that are wanted behind the lead byte at `at` end: none where they are not there.
-#[tactic(auto, using(crate::proofs::Rows::wanted_in, crate::proofs::Rows::wanted_below, crate::proofs::Rows::wanted_above, crate::proofs::Rows::wanted_short))]
+#[tactic(auto, using(crate::proofs::Rows::wanted_on))]
 fn follow(s: &[u8], at: usize, end: usize, wanted: Wanted) -> Option<usize>
     requires { (at < end) × (end ≤ length s.now) × (wanted.count ≤ 3) }
     ensures { Follows s.now at end wanted result }
@@ -41,7 +42,8 @@ fn follow(s: &[u8], at: usize, end: usize, wanted: Wanted) -> Option<usize>
     }
     let mut low = wanted.low;
     let mut high = wanted.high;
-    for byte in &s[at + 1..after] {
+    let tail = &s[at + 1..after];
+    for byte in tail {
         if *byte < low || high < *byte {
             return None;
         }

@@ -22,11 +22,14 @@ use Rattle.bodies.proofs.Splitting.{rest_within}
 use Rattle.timestamps.specs.Timestamp.{fraction_from, with_fraction, with_decimal, with_values, with_offset, encoded, too_wide, hour_alone, ranged, judged, timestamp}
 use Rattle.timestamps.specs.Timestamp.{fields_from, fields_of}
 use Rattle.timestamps.specs.TimestampMeaning.{absent_fraction}
-use Rattle.timestamps.specs.Private.Reading.{magnitude_answer, measured, measured_from}
+use Rattle.timestamps.specs.Private.Reading.{Filled, fields_given, magnitude_answer, measured, measured_from}
 use Rattle.timestamps.specs.declared.timestamp.Offset.{Offset}
 use Rattle.timestamps.specs.declared.timestamp.Fields.{Fields}
 use Rattle.timestamps.proofs.Stamping.{Behind, fields_behind, none_behind, fraction_none}
-use Rattle.timestamps.proofs.FieldReading.{FieldsFound}
+use Rattle.timestamps.specs.declared.timestamp.FieldsRead.{FieldsRead}
+use Rattle.timestamps.specs.Timestamp.{Fraction}
+use Rattle.numbers.specs.declared.var_int.VarInt.{VarInt}
+use Rattle.timestamps.proofs.FieldReading.{FieldsFound, fields_found, fields_cut, filled}
 
 -- where no bytes are left, there is no fraction
 pub fraction_absent : (descriptor : ℕ) (s : List ℕ) (at end : ℕ) → at ≡ end → end ≤ length s → gives absent_fraction ≡ measured_from descriptor s end at
@@ -74,13 +77,13 @@ module _ (descriptor : ℕ) (s : List ℕ) (start end : ℕ) (i : Signed) (h : v
   abbrev offset : Offset
   offset = record { negative = i.negative; minutes = i.magnitude }
 
-  pub behind : Behind s end (record { values = r.values; next = at })
+  behind : Behind s end (record { values = r.values; next = at })
   behind =
       let n = var_int_at s start end h in
       fields_behind s end i.next (record { values = r.values; next = at })
       (omega (arith, ap (λ (x : Signed). x.next) n.is, n.number.ends)) n.number.within r.is
 
-  pub within : end ≤ length s
+  within : end ≤ length s
   within = (var_int_at s start end h).number.within
 
   count_is : f.count ≡ length r.values
@@ -92,13 +95,44 @@ module _ (descriptor : ℕ) (s : List ℕ) (start end : ℕ) (i : Signed) (h : v
   decided = rw (h, r.is, ← r.fields)
 
   -- an hour stands alone, and behind it there is nothing
-  pub hour_found : f.count ≡ 4 → refuses 61 descriptor ≡ timestamp descriptor s start end
+  hour_found : f.count ≡ 4 → refuses 61 descriptor ≡ timestamp descriptor s start end
   unfolding judged hour_alone
   hour_found e =
       let q : at ≡ end = by_case (ltb at end) (λ t. absurd (let x = behind.all (ltb-true at end t) in omega (arith, count_is))) (λ t. let x = ltb-false at end t in omega (arith, behind.ends)) in
       sym (decided ∙ rw (q, fraction_none s end offset f within, eq-eqb f.count 4 e))
 
   -- else the fraction decides, and then the ranges do
-  pub fraction_found : (f.count ≡ 4 → ⊥) → and_then (measured_from descriptor s end at) (λ y. ranged descriptor (record { offset = offset; fields = f; fraction = y })) ≡ timestamp descriptor s start end
+  fraction_found : (f.count ≡ 4 → ⊥) → and_then (measured_from descriptor s end at) (λ y. ranged descriptor (record { offset = offset; fields = f; fraction = y })) ≡ timestamp descriptor s start end
   unfolding with_decimal measured_from
   fraction_found n = measured_judged descriptor s at end offset f (decimal s at end) n ∙ sym decided
+
+-- the same of what was read, as the tactics are to have it
+module _ (descriptor : ℕ) (s : List ℕ) (start end : ℕ) (i : VarInt) (h : var_int s start end ≡ gives (record { negative = i.negative; magnitude = i.magnitude; next = i.next })) where
+  pub bytes_in : end ≤ length s
+  bytes_in = (var_int_at s start end h).number.within
+
+  pub fields_refused : (n p : ℕ) → fields_given (fields_from 6 s end i.next) ≡ refuses n p → refuses n p ≡ timestamp descriptor s start end
+  unfolding timestamp encoded with_offset
+  fields_refused n p e = rw (h, fields_cut _ n p e)
+
+  module _ (f : FieldsRead) (e : fields_given (fields_from 6 s end i.next) ≡ gives f) where
+    found : FieldsFound (fields_from 6 s end i.next) f.fields f.next
+    found = fields_found _ e
+
+    pub fields_end : f.next ≤ end
+    fields_end = (behind descriptor s start end _ h _ _ found).ends
+
+    pub fields_filled : Filled f.fields
+    fields_filled = rw found.fields (filled found.values (behind descriptor s start end _ h _ _ found).most)
+
+    pub hour_stands : f.fields.count ≡ 4 → refuses 61 descriptor ≡ timestamp descriptor s start end
+    hour_stands = hour_found descriptor s start end _ h _ _ found
+
+    module _ (n : f.fields.count ≡ 4 → ⊥) where
+      pub fraction_refused : (number position : ℕ) → measured_from descriptor s end f.next ≡ refuses number position → refuses number position ≡ timestamp descriptor s start end
+      fraction_refused number position q = rw q at (fraction_found descriptor s start end _ h _ _ found n)
+
+      pub fraction_given : (y : Fraction) → measured_from descriptor s end f.next ≡ gives y → ranged descriptor (record { offset = record { negative = i.negative; minutes = i.magnitude }; fields = f.fields; fraction = y }) ≡ timestamp descriptor s start end
+      fraction_given y q = rw q at (fraction_found descriptor s start end _ h _ _ found n)
+
+pub ruleset stamp_told = (bytes_in, fields_refused, fields_end, fields_filled, hour_stands, fraction_refused, fraction_given)

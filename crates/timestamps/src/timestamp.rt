@@ -281,6 +281,7 @@ fn read_fields(s: &[u8], at: usize, end: usize) -> Result<FieldsRead, Refusal>
 
 // Reads the timestamp whose body is start..end. Faults of what is read as a whole, and not of one of its numbers, are at
 // `descriptor`, where the value's descriptor stands.
+#[tactic(auto, using(crate::proofs::Stamps::stamp_told), unfolding(crate::specs::Timestamp::timestamp, crate::specs::Timestamp::encoded))]
 pub fn read_timestamp(
     s: &[u8],
     start: usize,

@@ -30,7 +30,7 @@ fraction_read (Some f) =
     }
 
 -- the fields of values, and where these end
-abbrev pub fields_given : Outcome Values → Outcome FieldsRead
+unfoldable pub fields_given : Outcome Values → Outcome FieldsRead
 fields_given o = and_then o (λ v. gives (record { fields = fields_of v.values; next = v.next }))
 
 abbrev pub fields_read : Result FieldsRead Refusal → Outcome FieldsRead
