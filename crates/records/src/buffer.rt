@@ -14,6 +14,7 @@ const WORD_SIZE: usize = 8;
 pub const RECORD_SIZE: usize = RECORD_WORDS * WORD_SIZE;
 
 // Puts words at the buffer's start, each with its least significant byte first.
+#[tactic(auto, using(crate::proofs::Storing::stored))]
 fn put_words(out: &mut [u8], words: &[u64])
     requires { length words.now * word_size ≤ length out.old }
     ensures { out.new ≡ bytes_of words.now ++ drop (length words.now * word_size) out.old }
@@ -25,6 +26,7 @@ fn put_words(out: &mut [u8], words: &[u64])
 }
 
 // The number that a record tells: a refusal's, else 0.
+#[tactic(auto, using(crate::proofs::Storing::told))]
 fn number_in(words: &[u64]) -> u64
     ensures { result ≡ number_in words.now }
 {
@@ -36,6 +38,7 @@ fn number_in(words: &[u64]) -> u64
 
 // Puts a record at the buffer's start. Returns 51 where there is no room for it, and nothing is written; else 0, or the number of the refusal that the record
 // is.
+#[tactic(auto, using(values::proofs::Tests::tests), unfolding(crate::specs::Buffer::words_in, crate::specs::Buffer::words_returned))]
 pub fn put_record<const N: usize>(out: &mut [u8], words: [u64; N]) -> u64
     ensures value { result ≡ words_returned N words.entry out.old }
     ensures out_after { out.new ≡ words_in N words.entry out.old }

@@ -1,13 +1,17 @@
 -- What is made of an item of the stream, of a table's field and of a list's entry leads to the item's end, if anywhere.
 -- Assumes nothing.
-use Prim.Native.Nat.{ℕ}
-use mathlib.Core.Path.{◌≡◌, refl}
+use Prim.Native.Nat.{ℕ, ◌+◌, ◌-◌, ◌<◌}
+use native.Mathlib.Omega.{arith}
+use borrow.Author.Tests.{ne_eqb}
+use mathlib.Core.Path.{◌≡◌, refl, ◌∙◌, sym}
 use mathlib.Core.Bool.{Bool}
 use mathlib.Core.List.{List}
 use lib.Dec.{ltb, eqb}
 use Rattle.numbers.specs.Outcome.{Outcome, gives, refuses}
 use Rattle.numbers.proofs.Outcomes.{by_test}
+use Rattle.framing.specs.Read.{spans_of}
 use Rattle.framing.specs.Spans.{Spans}
+use Rattle.framing.specs.declared.encoded_value.EncodedValue.{EncodedValue}
 use Rattle.stepping.specs.Items.{finish, marker, value, field}
 use Rattle.stepping.specs.Answers.{answer_at}
 use Rattle.stepping.specs.declared.cursor.Rules.TheVariants.{Stream, Sequence, Fields}
@@ -55,3 +59,10 @@ module _ (limit : ℕ) (s : List ℕ) (at end : ℕ) where
 
   pub entry_step : (n : ℕ) → step_all limit Sequence s (on_entry s) at end n ≡ turned (λ e k. step_all limit Sequence s (on_entry s) e end k) (meets (on_entry s) n (answer_at limit Sequence s at end))
   entry_step n = one_step limit Sequence s end (on_entry s) (entry_follows s) at n
+
+  -- one more entry is passed
+  pub entry_passed : (count k : ℕ) (v : EncodedValue) → k < count → answer_at limit Sequence s at end ≡ gives (value (spans_of v)) → step_all limit Sequence s (on_entry s) v.end end (count - (k + 1)) ≡ step_all limit Sequence s (on_entry s) at end (count - k)
+  unfolding on_entry
+  entry_passed count k v h e =
+      let n : count - k - 1 ≡ count - (k + 1) = omega arith in
+      sym (entry_step (count - k) ∙ rw (e, ne_eqb (count - k) 0 (omega arith), n))

@@ -1,6 +1,7 @@
 // Symbol tables: which one rules at a place of a stream, which list gives its own texts, and the entry of that list.
 //
-// A table and a list are each given by the body of the value: `None` where the system's texts rule alone, and where no list gives texts.
+// A table and a list are each given by the body of the value: `None` where the system's texts rule alone, and where no list gives texts. The stream's places
+// are parameters here as they are of the entries.
 ghost use Rattle.std.specs.Prelude.{◌≡◌, ◌<◌};
 ghost use Rattle.numbers.specs.Outcome.{gives};
 ghost use Rattle.numbers.specs.Read.{outcome};
