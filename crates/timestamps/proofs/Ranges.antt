@@ -7,8 +7,6 @@ use mathlib.Core.Path.{◌≡◌, refl, sym}
 use mathlib.Core.Bool.{Bool, true, false, true≢false}
 use lib.Dec.{eqb, leb, ltb}
 use borrow.Author.Tests.{ne_eqb, eqb-true, eqb-false, ltb-true, ltb-false, le-ltb, leb-false, lt-leb}
-use Rattle.std.specs.Prelude.{Option, None, Some}
-use Rattle.std.specs.Option.{unwrap_or, is_some}
 use Rattle.numbers.specs.Outcome.{pick}
 use Rattle.numbers.proofs.Outcomes.{by_case}
 use Rattle.timestamps.specs.Calendar.{days_in, DaysOf}
@@ -17,8 +15,7 @@ use Rattle.timestamps.specs.TimestampMeaning.{Between, FieldsWithin, FractionWit
 use Rattle.timestamps.specs.declared.timestamp.Fields.{Fields}
 use Rattle.timestamps.specs.declared.timestamp.Offset.{Offset}
 use Rattle.timestamps.specs.Timestamp.{Fraction}
-use Rattle.timestamps.specs.Private.Reading.{Filled, fraction_read}
-use Rattle.timestamps.specs.declared.timestamp.Fraction.{Fraction as Given}
+use Rattle.timestamps.specs.Private.Reading.{Filled}
 use Rattle.timestamps.proofs.Gregorian.{months-sound, months-complete, days_most}
 use Rattle.timestamps.proofs.Powers.{power_positive}
 
@@ -190,11 +187,3 @@ module _ (o : Offset) (f : Fields) (x : Fraction) (h : out_of_range (record { of
   second_fits = (within_sound _ h).fields.second
 
 pub ruleset fields_fit = (offset_fits, year_fits, month_fits, day_fits, hour_fits, minute_fits, second_fits)
-
--- a fraction by its parts, which are zero where there is none
-abbrev absent : Given
-absent = record { exponent_negative = false; exponent = 0; negative = false; coefficient = 0 }
-
-pub fraction_parts : (x : Option Given) → fraction_read x ≡ record { present = is_some x; exponent_negative = (unwrap_or x absent).exponent_negative; exponent = (unwrap_or x absent).exponent; negative = (unwrap_or x absent).negative; coefficient = (unwrap_or x absent).coefficient }
-fraction_parts None = refl
-fraction_parts (Some f) = refl

@@ -48,7 +48,7 @@ pub struct Fields {
 }
 
 // A fraction's exponent, and its coefficient's sign and magnitude.
-#[derive(Clone, Copy)]
+#[derive(Clone, Copy, Default)]
 pub struct Fraction {
     pub exponent_negative: bool,
     pub exponent: usize,
@@ -156,7 +156,7 @@ fn offset_of(offset: Offset, count: usize) -> u16
 }
 
 // What was read as an answer, where all of it is in range. (`as`: the ranges say that each field fits, where `try_from` would have an error that never comes.)
-#[tactic(auto, using(crate::proofs::Ranges::fields_fit, crate::proofs::Ranges::fraction_parts), unfolding(crate::specs::Timestamp::ranged, crate::specs::Timestamp::stamp_of))]
+#[tactic(auto, using(crate::proofs::Ranges::fields_fit), unfolding(crate::specs::Timestamp::ranged, crate::specs::Timestamp::stamp_of))]
 fn answer_in_range(
     descriptor: usize,
     offset: Offset,
@@ -173,18 +173,12 @@ fn answer_in_range(
         });
     }
     let precision = precision_of(fields.count, fraction.is_some());
-    let absent = Fraction {
-        exponent_negative: false,
-        exponent: 0,
-        negative: false,
-        coefficient: 0,
-    };
     let Fraction {
         exponent_negative,
         exponent,
         coefficient,
         ..
-    } = fraction.unwrap_or(absent);
+    } = fraction.unwrap_or_default();
     Ok(Stamp {
         precision,
         offset: offset_of(offset, fields.count),
