@@ -5,7 +5,7 @@ use native.Mathlib.Omega.{arith}
 use mathlib.Core.Path.{◌≡◌, ◌∙◌, sym, ap}
 use mathlib.Core.Bool.{true, false}
 use mathlib.Core.List.{List}
-use lib.ListN.{length}
+use lib.ListN.{length, get_or}
 use Rattle.std.specs.Prelude.{Result, Ok, Err}
 use Rattle.numbers.specs.Outcome.{Outcome, gives, refuses, outside_of}
 use Rattle.numbers.specs.declared.refusal.Refusal.{Refusal}
@@ -19,7 +19,8 @@ use Rattle.stepping.specs.declared.cursor.Item.TheVariants.{End}
 use Rattle.stepping.specs.declared.cursor.Name.{Name}
 use Rattle.stepping.specs.declared.cursor.Rules.{Rules}
 use Rattle.walking.specs.Walk.{visit}
-use Rattle.walking.specs.Calls.{end_at, rules_at, moved_to, state_after_visit, visit_of, calls, items_in}
+use Rattle.walking.specs.Calls.{no_part, end_at, moved_to, state_after_visit, visit_of, calls, items_in}
+use Rattle.walking.specs.Private.State.{rules_by}
 use Rattle.walking.specs.declared.walk.Limits.{Limits}
 use Rattle.walking.specs.declared.walk.Walk.{Walk}
 use Rattle.walking.proofs.Depths.{in_limit}
@@ -87,7 +88,7 @@ module _ {limits : Limits} {most count total : ℕ} {s : List ℕ} {w : Walk} (i
       end_risen x e z h = rose x o (omega (arith, z)) (nothing e) h
 
       -- by the name that is read, and what stands behind it
-      module _ {rules : Rules} {x : Result Name Refusal} (r : rules ≡ rules_at w w.depth) (n : w.at ≡ end_at w w.depth → ⊥) (e : named_read x ≡ name_at rules s w.at (end_at w w.depth)) where
+      module _ {rules : Rules} {x : Result Name Refusal} (r : rules ≡ rules_by w.depth (get_or w.parts w.depth no_part).fields) (n : w.at ≡ end_at w w.depth → ⊥) (e : named_read x ≡ name_at rules s w.at (end_at w w.depth)) where
         pub unnamed_counted : {f : Refusal} → x ≡ Err f → count ≡ total
         unnamed_counted h = refused (unnamed_here limits s w rules r o n (sym e ∙ ap named_read h))
 

@@ -18,17 +18,16 @@ use Rattle.walking.proofs.Seeking.{handed}
 use Rattle.walking.proofs.Counting.{named_item, after_named, after_moved}
 use Rattle.walking.proofs.Turns.{Counted, went, unnamed_counted, name_in_slice, refused_counted, over_counted, over_risen}
 use Rattle.std.specs.Prelude.{Ok}
+use borrow.Author.Rules.{rules}
 use Rattle.walking.proofs.Meeting.{short_here, named_here}
 use Rattle.walking.proofs.walk.Walk.count.Goals as goal
-use Rattle.walking.proofs.walk.Walk.count.Goals.{Else-outside, In-Ok, After-item_from, Joined-short_value, in-Some, in-None+in-Ok-item_from+in_default-item}
+use Rattle.walking.proofs.walk.Walk.count.Goals.{Joined-short_value, in-Some, in-None+in-Ok-item_from+in_default-item}
 
 pub returns-in_default : goal.returns-in_default
-returns-in_default c =
-    unnamed_counted c.loop-count.invariant c.if-limits-depth.false c.if-place.false (sym c.outside.ensures ∙ c.if-outside.false) c.rules_at-rules.ensures c.if-at-end.false c.read_name.ensures c.in_default.is
+returns-in_default c = search (rules, unnamed_counted c.loop-count.invariant c.if-limits-depth.false c.if-place.false)
 
 pub bounds-s-name : goal.bounds-s-name
-bounds-s-name c =
-    name_in_slice c.loop-count.invariant c.if-limits-depth.false c.if-place.false (sym c.outside.ensures ∙ c.if-outside.false) c.rules_at-rules.ensures c.if-at-end.false c.read_name.ensures c.in-Ok.is
+bounds-s-name c = grind (arith, name_in_slice c.loop-count.invariant c.if-limits-depth.false c.if-place.false)
 
 pub overflow_add-past : goal.overflow_add-past
 overflow_add-past c =
