@@ -2,29 +2,23 @@
 use native.Mathlib.Omega.{arith}
 use Prim.Native.Nat.{ℕ, ◌+◌}
 use mathlib.Core.Path.{◌≡◌, ◌∙◌, sym, ap}
-use mathlib.Core.List.{List}
 use lib.ListN.{get_or}
-use Rattle.std.specs.Prelude.{Option, Some, None}
 use Rattle.std.specs.Option.{unwrap_or}
-use Rattle.numbers.specs.ShortVarUInt.{short_var_uint_of}
 use Rattle.stepping.specs.declared.cursor.Name.{Name}
-use Rattle.stepping.specs.declared.cursor.Rules.{Rules}
 use Rattle.numbers.specs.Outcome.{gives}
 use Rattle.framing.specs.Spans.{Spans}
 use Rattle.framing.specs.Answers.{read_value}
 use Rattle.framing.specs.ShortValue.{short_value, bare_spans, short_value_of}
 use Rattle.framing.specs.Read.{short_value_read}
 use Rattle.framing.proofs.ShortValues.{short_bounds}
-use Rattle.stepping.specs.Answers.{answer_at}
 use Rattle.stepping.specs.Names.{name_at, answer_from}
-use Rattle.stepping.specs.Read.{name_of, short_name_read}
-use Rattle.stepping.proofs.Naming.{answer_unread}
-use Rattle.stepping.proofs.Plain.{NameIn, name_in, named_stepped, short_stepped}
+use Rattle.stepping.specs.Read.{name_of}
+use Rattle.stepping.proofs.Plain.{NameIn, name_in, short_stepped}
+use Rattle.stepping.proofs.ShortNames.{short_said, entered}
 use Rattle.records.specs.Buffer.{record_in}
 use Rattle.records.specs.Words.{words, bare_words}
 use Rattle.records.proofs.BareWords.{bare-words}
 use Rattle.numbers.proofs.Outcomes.{in_part}
-use Rattle.numbers.proofs.ShortVarUInts.{short_given}
 use Rattle.maps.specs.Put.{put_by}
 use Rattle.maps.proofs.Putting.{value_leaves, put_at}
 use Rattle.maps.proofs.step.put_step.Goals as goal
@@ -32,7 +26,7 @@ use Rattle.maps.proofs.step.put_step.Goals.{in-Some+in_default-short_value, in_d
 
 -- the name that was read, and where it ends
 named : (c : In-Some) → let a = c.args in name_at a.rules a.map.now a.at a.end ≡ gives (name_of c.in-Some.name)
-named c = let a = c.args in short_given a.at (name_at a.rules a.map.now a.at a.end) (sym c.short_name-short.ensures ∙ ap short_name_read c.in-Some.is)
+named c = let a = c.args in short_said a.rules a.map.now a.at a.end c.short_name-short.ensures c.in-Some.is
 
 ended : (c : In-Some) → let a = c.args in NameIn a.at a.end (name_of c.in-Some.name)
 ended c =
@@ -73,11 +67,6 @@ returns-in-Some-short_value c =
     let e : c.bare_words.result ≡ bare_words a.rules a.at n.value (get_or s n.next 0) n.next body (body + size) size = c.bare_words.ensures in
     let f = bare-words s a.at a.end (get_or s n.next 0) body size a.rules n (named here.In-Some) in
     put_at a.out.now (sym o) (e ∙ f) c.put_record-in-Some-short_value.ensures (value_leaves a.rules a.at n.value (value here.In-Some-short_value))
-
--- behind the name that was read, if it was
-entered : (limit : ℕ) (rules : Rules) (s : List ℕ) (at end : ℕ) (o : Option Name) → short_name_read o ≡ short_var_uint_of at (name_at rules s at end) → answer_from limit rules s at end (name_of (unwrap_or o (record { id = 0; next = at }))) ≡ answer_at limit rules s at end
-entered limit rules s at end (Some n) h = named_stepped limit rules s at end (name_of n) (short_given at (name_at rules s at end) (sym h))
-entered limit rules s at end None h = answer_unread limit rules s at end 0
 
 pub returns : goal.returns
 returns c =
