@@ -55,7 +55,7 @@ impl Progress {
         }
     }
 
-    // Counts n more in a place, which end at `at` at the earliest. (std has no `From` for the cast, which is proved to lose nothing.)
+    // Counts n more in a place, and goes on to `at`, which is n bytes further at least. (std has no `From` for the cast, which is proved to lose nothing.)
     #[tactic(auto, unfolding(crate::specs::Counts::counting))]
     pub(crate) fn pass(&mut self, place: usize, n: usize, at: usize)
         requires { (place < places) × (self.old.at + n ≤ at) }
