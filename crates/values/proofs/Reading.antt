@@ -1,11 +1,11 @@
 -- A value that an entry frames, and the part that a reading of it gives, lie in the slice.
 -- Assumes nothing.
-use Prim.Native.Nat.{ℕ, ◌-◌, ◌≤◌}
+use Prim.Native.Nat.{ℕ, ◌-◌, ◌^◌, ◌<◌, ◌≤◌}
 use native.Mathlib.Omega.{arith}
 use mathlib.Core.Path.{◌≡◌}
 use mathlib.Core.Bool.{Bool, not}
 use mathlib.Core.List.{List}
-use lib.ListN.{length}
+use lib.ListN.{length, get_or}
 use lib.Dec.{ltb, eqb}
 use Rattle.numbers.specs.Outcome.{Outcome, gives}
 use Rattle.numbers.proofs.Outcomes.{Each, given, each_refuse, each_pick, each_then, each_map, each_of, refused}
@@ -15,6 +15,10 @@ use Rattle.framing.specs.Answers.{read_value}
 use Rattle.framing.proofs.Bounds.{peeked_each, value_each}
 use Rattle.bodies.specs.Utf8.{utf8}
 use Rattle.bodies.specs.Magnitude.{significant_from}
+use Rattle.numbers.specs.Bytes.{part}
+use Rattle.numbers.specs.Format.{uint_of}
+use Rattle.bodies.specs.Uint.{uint_in}
+use Rattle.bodies.proofs.BigEndian.{uint_inside, uint_below}
 use Rattle.bodies.proofs.Leading.{significant_begins}
 use Rattle.values.specs.Scalars.{value_in, type_of, code_of, Scalar, int, bool_of, positive_of, negative_of, float_of, symbol_of, string_of, typed_of, scalar_of, read_scalar, span_of}
 
@@ -85,3 +89,9 @@ module _ (limit : ℕ) (s : List ℕ) (start end at : ℕ) where
 
   pub span_within : (span_of (read_scalar limit s start end at)).end ≤ length s
   span_within = (each_span s (read_each limit s start end at)).1
+
+-- four bytes are a number below 2 ^ 32
+pub four_fit : (s : List ℕ) (at end : ℕ) → ((i : ℕ) → get_or s i 0 < 256) → end - at ≡ 4 → at ≤ end → end ≤ length s → uint_in s at end < 2 ^ 32
+four_fit s at end bytes four order within =
+    let below : uint_of (part s at end) < 256 ^ (end - at) = uint_below s bytes at end order within in
+    rw (uint_inside s at end order within (omega arith)) (rw four at below)

@@ -242,7 +242,7 @@ fn read_negative(s: &[u8], value: EncodedValue) -> Result<Scalar, Refusal>
 
 // Four bytes are proved to fit a `u32`. That takes what each byte is at most, which is known of a slice that is a parameter and not of one in a struct: so
 // this is no method of `Placed`, and has its facts as a `requires`.
-#[tactic(auto, using(crate::proofs::Tests::tests), unfolding(crate::specs::Scalars::float_of))]
+#[tactic(auto, using(crate::proofs::Tests::tests, crate::proofs::Reading::four_fit), unfolding(crate::specs::Scalars::float_of))]
 fn read_float(s: &[u8], value: EncodedValue) -> Scalar
     requires { (value.body ≤ value.end) × (value.end ≤ length s.now) }
     ensures { gives (scalar_told result) ≡ float_of s.now (spans_of value) }
