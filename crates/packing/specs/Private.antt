@@ -4,3 +4,4 @@ pub mod Sizes
 pub mod Bytes
 pub mod Items
 pub mod Fronts
+pub mod Puts

@@ -1,11 +1,12 @@
 // What goes before the body of a value: its descriptor, and its length.
-ghost use Rattle.std.specs.Prelude.{◌≡◌};
-ghost use Rattle.std.proofs.lemmas.List.Edits.{sets};
+ghost use Rattle.std.specs.Prelude.{◌≡◌, ◌+◌, ◌≤◌, length};
 ghost use Rattle.packing.specs.Tree.{kept_byte, header_of};
 ghost use Rattle.packing.specs.Private.Kinds.{kind_of};
+ghost use Rattle.packing.specs.Private.Puts.{Puts};
 ghost use Rattle.packing.specs.Private.Sizes.{header_size};
 
-use encoding::put::{head_size, put_byte, put_head, put_var_uint, var_uint_size};
+use crate::output::Output;
+use encoding::put::{head_size, var_uint_size};
 
 // The descriptor of an ordered struct, and of an empty one.
 const ORDERED: u8 = 0xD1;
@@ -63,19 +64,20 @@ pub(crate) fn header_size(byte: u8, n: usize) -> usize
     }
 }
 
-// Puts a descriptor and the length of a body of `n` bytes.
-#[tactic(auto, using(encoding::proofs::Stores::sets_out), unfolding(crate::specs::Tree::header_of, crate::specs::Private::Kinds::kind_of))]
-pub(crate) fn put_header(out: &mut [u8], to: usize, byte: u8, n: usize)
-    ensures { out.new ≡ sets out.old to (header_of byte n) }
-{
-    match Kind::from(byte) {
-        Kind::Lengthless => put_byte(out, to, byte),
-        Kind::Ordered => {
-            if to < out.len() {
-                put_byte(out, to, byte);
-                put_var_uint(out, to + 1, n);
+impl<'a> Output<'a> {
+    // Puts a descriptor and the length of a body of `n` bytes.
+    #[tactic(auto, unfolding(crate::specs::Tree::header_of, crate::specs::Private::Sizes::header_size, crate::specs::Private::Kinds::kind_of))]
+    pub(crate) fn put_header(&mut self, byte: u8, n: usize)
+        requires { self.old.next + header_size byte n ≤ length self.old.out.now }
+        ensures { Puts self.old (header_of byte n) self.new }
+    {
+        match Kind::from(byte) {
+            Kind::Lengthless => self.put(&[byte]),
+            Kind::Ordered => {
+                self.put(&[byte]);
+                self.put_var_uint(n);
             }
+            Kind::Coded => self.put_head(byte, n),
         }
-        Kind::Coded => put_head(out, to, byte, n),
     }
 }

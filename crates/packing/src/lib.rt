@@ -2,6 +2,7 @@
 #![tactic(auto)]
 
 mod header;
+mod output;
 pub mod pack;
 mod part;
 pub mod size;

@@ -1,121 +1,90 @@
-// Packs a map into a lent buffer: what `size.rt` gives the size of, written. The buffer and the position in it are two parameters, as `encoding` takes them:
-// there is no heap, and C lends the buffer.
+// Packs a map into a lent buffer: what `size.rt` gives the size of, written.
 //
 // `limit` is the most bytes that a value's annotations may have, `deepest` the depth at which a container is too deep.
-ghost use Rattle.std.specs.Prelude.{◌≡◌, [], ◌∷◌, ◌+◌, ◌-◌, ◌≤◌, length};
-ghost use Rattle.std.proofs.lemmas.List.Edits.{sets};
+ghost use Rattle.std.specs.Prelude.{◌≡◌, ◌+◌, ◌-◌, ◌≤◌, length};
 ghost use Rattle.numbers.specs.Bytes.{part};
 ghost use Rattle.packing.specs.Answers.{pack_of, buffer_of};
 ghost use Rattle.packing.specs.Read.{size_read};
 ghost use Rattle.packing.specs.Private.Sizes.{wrap_size};
-ghost use Rattle.packing.specs.Private.Items.{part_bytes, entry_body, entry_bytes};
+ghost use Rattle.packing.specs.Private.Items.{part_bytes, entry_body, entry_bytes, entry_front};
 ghost use Rattle.packing.specs.Private.Fronts.{wrap_front};
+ghost use Rattle.packing.specs.Private.Puts.{Puts};
 
-use crate::header::{header_size, kept_byte, put_header};
+use crate::header::{header_size, kept_byte};
+use crate::output::Output;
 use crate::part::{Entry, Met, Part};
-use crate::size::{MARKER, packed_size};
-use encoding::put::{head_size, put_bytes, put_head, put_var_uint, var_uint_size};
+use crate::size::packed_size;
+use encoding::put::var_uint_size;
 use numbers::refusal::{Reason, Refusal};
 
 // The type of a wrapper.
 const WRAPPER: u8 = 0xE0;
 
-// Puts a marker.
-fn put_marker(out: &mut [u8], to: usize, major: u8, minor: u8)
-    ensures { out.new ≡ sets out.old to (224 ∷ major ∷ minor ∷ 234 ∷ []) }
-{
-    let bytes = [0xE0, major, minor, 0xEA];
-    put_bytes(out, to, &bytes);
-}
-
 impl<'a> Entry<'a> {
-    // Puts what goes before a value of `n` bytes with its annotations: nothing where there are none. The position behind it.
-    #[tactic(auto, using(crate::proofs::Fronts::front_none, crate::proofs::Fronts::wrap_summed, crate::proofs::Fronts::wrap_stored, crate::proofs::Sizes::wrap_none, numbers::proofs::Parts::part_taken, numbers::proofs::Parts::part_length))]
-    fn put_wrap(&self, out: &mut [u8], to: usize, n: usize) -> usize
-        requires { to + wrap_size (self.now.value.descriptor - self.now.value.annotations) n ≤ length out.old }
-        ensures out_after { out.new ≡ sets out.old to (wrap_front (part self.now.s.now self.now.value.annotations self.now.value.descriptor) n) }
-        ensures n_value { result + n ≡ to + wrap_size (self.now.value.descriptor - self.now.value.annotations) n }
+    // Puts what goes before a value of `n` bytes with its annotations: nothing where there are none.
+    #[tactic(auto, using(crate::proofs::Fronts::puts, crate::proofs::Fronts::wrap_summed, crate::proofs::Fronts::front_none, crate::proofs::Fronts::front_some, encoding::proofs::VarUInts::bytes_size, encoding::proofs::Heads::head_length, numbers::proofs::Parts::part_taken, numbers::proofs::Parts::part_length))]
+    fn put_wrap(&self, output: &mut Output, n: usize)
+        requires { output.old.next + wrap_size (self.now.value.descriptor - self.now.value.annotations) n ≤ length output.old.out.now }
+        ensures { Puts output.old (wrap_front (part self.now.s.now self.now.value.annotations self.now.value.descriptor) n) output.new }
     {
-        let start = self.value.annotations;
-        let end = self.value.descriptor;
-        let size = end - start;
-        if size == 0 {
-            return to;
+        let annotations = &self.s[self.value.annotations..self.value.descriptor];
+        let size = annotations.len();
+        if size != 0 {
+            output.put_head(WRAPPER, var_uint_size(size) + (size + n));
+            output.put_var_uint(size);
+            output.put(annotations);
         }
-        let count = var_uint_size(size);
-        let wrapped = count + (size + n);
-        put_head(out, to, WRAPPER, wrapped);
-        let after = to + head_size(wrapped);
-        put_var_uint(out, after, size);
-        let annotations = after + count;
-        put_bytes(out, annotations, &self.s[start..end]);
-        annotations + size
     }
 
-    // Puts what goes before its body, of `n` bytes: its field ID, its annotations, its descriptor and its length. The position behind it.
-    #[tactic(auto, using(crate::proofs::Entries::entry_size, crate::proofs::Entries::entry_least, crate::proofs::Fronts::entry_stored, numbers::proofs::Parts::part_taken))]
-    fn put_front(&self, out: &mut [u8], to: usize, n: usize) -> usize
-        requires { (n ≡ length (entry_body self.now)) × (to + length (entry_bytes self.now) ≤ length out.old) }
-        ensures out_after { sets out.new result (entry_body self.now) ≡ sets out.old to (entry_bytes self.now) }
-        ensures n_value { result + n ≡ to + length (entry_bytes self.now) }
+    // Puts what goes before its body, of `n` bytes: its field ID, its annotations, its descriptor and its length.
+    #[tactic(auto, using(crate::proofs::Fronts::puts, crate::proofs::Entries::entry_size, crate::proofs::Entries::entry_least, crate::proofs::Fronts::wrap_front_length, numbers::proofs::Parts::part_taken, numbers::proofs::Parts::part_length), unfolding(crate::specs::Private::Fronts::front_of))]
+    fn put_front(&self, output: &mut Output, n: usize)
+        requires { (n ≡ length (entry_body self.now)) × (output.old.next + length (entry_bytes self.now) ≤ length output.old.out.now) }
+        ensures { Puts output.old (entry_front self.now n) output.new }
     {
-        let value = self.value;
-        let byte = kept_byte(value.byte, n);
-        let header = header_size(byte, n);
-        let from = self.from;
-        let start = value.start;
-        put_bytes(out, to, &self.s[from..start]);
-        let named = to + (start - from);
-        let wrapped = self.put_wrap(out, named, header + n);
-        put_header(out, wrapped, byte, n);
-        wrapped + header
+        let byte = kept_byte(self.value.byte, n);
+        output.put(&self.s[self.from..self.value.start]);
+        self.put_wrap(output, header_size(byte, n) + n);
+        output.put_header(byte, n);
     }
 
-    // Packs it. The position behind it.
+    // Packs it.
     #[cycle(packs)]
-    #[tactic(auto, using(numbers::proofs::Parts::part_taken))]
-    fn pack(&self, out: &mut [u8], to: usize) -> usize
-        requires { to + length (entry_bytes self.now) ≤ length out.old }
-        ensures out_after { out.new ≡ sets out.old to (entry_bytes self.now) }
-        ensures value { result ≡ to + length (entry_bytes self.now) }
+    #[tactic(auto, using(crate::proofs::Fronts::entry_length, crate::proofs::Fronts::entry_stored, numbers::proofs::Parts::part_taken, numbers::proofs::Parts::part_length))]
+    fn pack(&self, output: &mut Output)
+        requires { output.old.next + length (entry_bytes self.now) ≤ length output.old.out.now }
+        ensures { Puts output.old (entry_bytes self.now) output.new }
     {
         let n = self.body_size();
-        let body = self.put_front(out, to, n);
+        self.put_front(output, n);
         match self.inside() {
-            Some(inside) => inside.pack(out, body),
-            None => {
-                put_bytes(out, body, &self.s[self.value.body..self.value.end]);
-                body + n
-            }
+            Some(inside) => inside.pack(output),
+            None => output.put(&self.s[self.value.body..self.value.end]),
         }
     }
 }
 
 impl<'a> Part<'a> {
-    // Packs it. The position behind it.
+    // Packs it.
     #[cycle(packs)]
-    #[tactic(auto, using(encoding::proofs::Stores::sets_more, crate::proofs::Places::part_sizes))]
-    fn pack(&self, out: &mut [u8], to: usize) -> usize
-        requires { to + length (part_bytes self.now) ≤ length out.old }
-        ensures out_after { out.new ≡ sets out.old to (part_bytes self.now) }
-        ensures value { result ≡ to + length (part_bytes self.now) }
+    #[tactic(auto, using(crate::proofs::Fronts::puts))]
+    fn pack(&self, output: &mut Output)
+        requires { output.old.next + length (part_bytes self.now) ≤ length output.old.out.now }
+        ensures { Puts output.old (part_bytes self.now) output.new }
     {
         let mut from = self.at;
-        let mut next = to;
         while let Some(met) = self.meet(from) {
             match met {
                 Met::Marker { major, minor, end } => {
-                    put_marker(out, next, major, minor);
-                    next += MARKER;
+                    output.put(&[0xE0, major, minor, 0xEA]);
                     from = end;
                 }
                 Met::Value(entry) => {
-                    next = entry.pack(out, next);
+                    entry.pack(output);
                     from = entry.value.end;
                 }
             }
         }
-        next
     }
 }
 
@@ -132,6 +101,7 @@ pub fn pack(s: &[u8], limit: usize, deepest: usize, out: &mut [u8]) -> Result<us
             position: n,
         });
     }
-    Part::whole(s, limit).pack(out, 0);
+    let mut output = Output { out, next: 0 };
+    Part::whole(s, limit).pack(&mut output);
     Ok(n)
 }

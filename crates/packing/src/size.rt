@@ -17,7 +17,7 @@ use stepping::cursor::{Item, Rules, item_at};
 use values::value::open;
 
 // The bytes of a marker.
-pub(crate) const MARKER: usize = 4;
+const MARKER: usize = 4;
 
 // How many bytes a value of `n` bytes takes behind its annotations. This and `put_wrap`, as `size` and `put_front` of an entry, stay two: the lengths around a
 // value are put before it, and count it. A sink that counts or puts would be a trait, two impls and their laws, where each of these is a few lines.

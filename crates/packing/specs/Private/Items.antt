@@ -3,6 +3,8 @@
 use Rattle.std.specs.Prelude.{ℕ, ◌+◌, ◌≤◌, ◌≡◌, List, [], ◌∷◌, ◌++◌, Option, Some, None}
 use Rattle.numbers.specs.Bytes.{part}
 use Rattle.framing.specs.Read.{spans_of}
+use Rattle.packing.specs.Packed.{head_of}
+use Rattle.packing.specs.Private.Fronts.{front_of}
 use Rattle.packing.specs.Private.Bytes.{bytes_at, body_bytes, value_bytes}
 use Rattle.packing.specs.declared.part.Part.{Part}
 use Rattle.packing.specs.declared.part.Entry.{Entry}
@@ -39,3 +41,7 @@ MetFits p at (Some (Value x)) = (at ≤ x.from) × (x.value.end ≤ p.end)
 abbrev pub Inside : Entry → Option Part → Type 0
 Inside x None = entry_body x ≡ part x.s.now x.value.body x.value.end
 Inside x (Some p) = (part_bytes p ≡ entry_body x) × (p.at ≡ x.value.body) × (p.end ≡ x.value.end)
+
+-- what goes before a value's body of n bytes
+abbrev pub entry_front : Entry → ℕ → List ℕ
+entry_front x n = front_of (head_of x.s.now (part x.s.now x.from x.value.start) (spans_of x.value) n) n

@@ -14,8 +14,10 @@ decreases-Entry::pack l = (l.self.now.value.end - l.self.now.from) + (l.self.now
 abbrev pub invariant-Part::pack-loop-met : goal.invariant-Part::pack-loop-met
 invariant-Part::pack-loop-met l =
     (l.self.at ≤ l.from)
-    × (l.next + length (left_bytes l.self l.from) ≡ l.to + length (part_bytes l.self))
-    × (sets l.out l.next (left_bytes l.self l.from) ≡ sets l.initial.out l.to (part_bytes l.self))
+    × (l.output.next + length (left_bytes l.self l.from) ≡ l.initial.output.next + length (part_bytes l.self))
+    × (sets l.output.out.now l.output.next (left_bytes l.self l.from) ≡ sets l.initial.output.out.now l.initial.output.next (part_bytes l.self))
+    × (length l.output.out.now ≡ length l.initial.output.out.now)
+    × (l.output.out.ghost_name ≡ l.initial.output.out.ghost_name)
 
 abbrev pub decreases-Part::pack-loop-met : goal.decreases-Part::pack-loop-met
 decreases-Part::pack-loop-met l = l.self.end - l.from
