@@ -83,7 +83,8 @@ pub(crate) fn read_wrapper(place: Described, limit: usize) -> Result<Annotations
     check_wrapper(place.at, place.end, combined, size, limit)
 }
 
-// A value where it stands, once its wrapper is read: `expected` is how long the wrapper's lengths say that it is, 0 where it has no wrapper.
+// A value where it stands, once its wrapper is read: `expected` is how long the wrapper's lengths say that it is, 0 where it has no wrapper. A number and no
+// Option, since no wrapper says 0, and one test in the definition is enough.
 #[derive(Clone, Copy)]
 pub(crate) struct Located<'a> {
     pub annotations: usize,

@@ -19,12 +19,10 @@ use crate::encoded_value::{
 };
 use crate::limits::out_of_range;
 use numbers::binary_buffer::{outside, short_var_uint};
-use numbers::refusal::{Reason, Refusal};
-use numbers::type_descriptor::{Kind, TypeDescriptor};
+use numbers::refusal::{LIMIT_OUT_OF_RANGE, OUTSIDE, Reason, Refusal};
+use numbers::type_descriptor::{FIRST_NO_PAD, Kind, TypeDescriptor};
 
-// The first byte that begins a value and no pad, and the first that begins none again.
-const FIRST_VALUE: u8 = 0x0F;
-
+// The first byte past those that begin a value or a null.
 const FIRST_WRAPPER: u8 = 0xE0;
 
 // Tests of a kind, under the names that the contracts have for them.
@@ -58,10 +56,7 @@ pub(crate) fn peek_type_descriptor(
     ensures there { IfOk result (λ d. (d.s.now ≡ s.now) × (d.at ≡ at) × (d.end ≡ end)) }
 {
     if outside(s, at, end) {
-        return Err(Refusal {
-            reason: Reason::Outside,
-            position: 0,
-        });
+        return Err(OUTSIDE);
     }
     if at == end {
         return Err(Refusal {
@@ -174,10 +169,7 @@ pub fn read_value(s: &[u8], at: usize, end: usize, limit: usize) -> Result<Encod
     ensures { framed_read result ≡ limited limit (read_value limit s.now at end) }
 {
     if out_of_range(limit) {
-        return Err(Refusal {
-            reason: Reason::LimitOutOfRange,
-            position: 0,
-        });
+        return Err(LIMIT_OUT_OF_RANGE);
     }
     let place = peek_type_descriptor(s, at, end)?;
     read_value_at(place, limit)
@@ -188,7 +180,7 @@ pub fn read_value(s: &[u8], at: usize, end: usize, limit: usize) -> Result<Encod
 fn begins_value(byte: u8) -> bool
     ensures { result ≡ begins_value byte }
 {
-    FIRST_VALUE <= byte && byte < FIRST_WRAPPER
+    FIRST_NO_PAD <= byte && byte < FIRST_WRAPPER
 }
 
 // The value without a wrapper whose descriptor is this byte at `at`, with the body body..end.
@@ -252,10 +244,7 @@ pub fn read_frame(s: &[u8], at: usize, end: usize, limit: usize) -> Result<Frame
     ensures { frame_read result ≡ limited limit (read_frame limit s.now at end) }
 {
     if out_of_range(limit) {
-        return Err(Refusal {
-            reason: Reason::LimitOutOfRange,
-            position: 0,
-        });
+        return Err(LIMIT_OUT_OF_RANGE);
     }
     let place = peek_type_descriptor(s, at, end)?;
     read_frame_at(place, limit)
@@ -302,10 +291,7 @@ pub fn read_annotations_wrapper(
     ensures { wrapper_read result ≡ limited limit (read_wrapper limit s.now at end) }
 {
     if out_of_range(limit) {
-        return Err(Refusal {
-            reason: Reason::LimitOutOfRange,
-            position: 0,
-        });
+        return Err(LIMIT_OUT_OF_RANGE);
     }
     let place = peek_type_descriptor(s, at, end)?;
     if !is_wrapper(place.descriptor.kind) {

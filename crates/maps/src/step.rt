@@ -60,7 +60,7 @@ fn put_long(
     ensures value { result ≡ put_by (answer_from limit rules map.now at end (name_of name)) out.old }
     ensures out_after { out.new ≡ record_in (words (answer_from limit rules map.now at end (name_of name))) out.old }
 {
-    match item_from(rules, map, at, name.id, name.next, end, limit) {
+    match item_from(rules, map, at, name, end, limit) {
         Ok(item) => {
             let number = put_record(out, item_words(item));
             match left_by(Ok(item)) {

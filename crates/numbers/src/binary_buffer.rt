@@ -11,7 +11,7 @@ ghost use Rattle.numbers.specs.Read.{refusal_read, var_uint_read, short_var_uint
 ghost use Rattle.numbers.specs.Private.Groups.{groups};
 
 use crate::int::Int;
-use crate::refusal::{Reason, Refusal};
+use crate::refusal::{OUTSIDE, Reason, Refusal};
 use crate::var_int::VarInt;
 use crate::var_uint::VarUInt;
 
@@ -32,6 +32,7 @@ fn past_limit(s: &[u8], from: usize, at: usize, end: usize, cut: Reason) -> Refu
     requires { (from + most_bytes ≤ at) × (at ≤ end) × (end ≤ length s.now) }
     ensures { (v : ℕ) → refusal_read result ≡ groups (number_of cut) v s.now from at end }
 {
+    // By positions, as the invariant has the last byte's.
     for i in at..end {
         if 128 <= s[i] {
             return Refusal {
@@ -47,7 +48,8 @@ fn past_limit(s: &[u8], from: usize, at: usize, end: usize, cut: Reason) -> Refu
 }
 
 // A number that began at `from`: what its bytes before `at` are worth is `first`, and groups of seven bits follow from
-// `at` on. `cut` is the refusal where the last byte is missing.
+// `at` on. `cut` is the refusal where the last byte is missing. This and what it calls stand in their callers' place: a step without a call in it needs no frame
+// on the stack.
 #[inline(always)]
 fn read_groups(
     s: &[u8],
@@ -61,6 +63,7 @@ fn read_groups(
     ensures { var_uint_read result ≡ groups (number_of cut) first s.now from at end }
 {
     let mut value = first;
+    // By positions: where the number began and where it ends are told by them.
     for i in at..end {
         if MAX_ENCODED_SIZE_IN_BYTES <= i - from {
             return Err(past_limit(s, from, i, end, cut));
@@ -77,7 +80,7 @@ fn read_groups(
     })
 }
 
-// Reads a VarUInt of three bytes at most: most lengths and field IDs have no more.
+// Reads a VarUInt of three bytes at most: most lengths and field IDs have no more. Byte by byte: by a loop each item took longer (docs/SPEED.md).
 pub fn short_var_uint(s: &[u8], at: usize, end: usize) -> Option<VarUInt>
     ensures { short_var_uint_read result ≡ short_var_uint_of at (var_uint s.now at end) }
 {
@@ -116,16 +119,6 @@ pub fn short_var_uint(s: &[u8], at: usize, end: usize) -> Option<VarUInt>
     None
 }
 
-// A VarUInt of the part at..end, read by all its bytes, also a short one. This and what it calls stand in their callers' place: a step without a call in it needs
-// no frame on the stack, which many steps would feel by a twentieth.
-#[inline(always)]
-fn read_long(s: &[u8], at: usize, end: usize) -> Result<VarUInt, Refusal>
-    requires { (at ≤ end) × (end ≤ length s.now) }
-    ensures { var_uint_read result ≡ var_uint s.now at end }
-{
-    read_groups(s, at, at, end, 0, Reason::VarUIntCut)
-}
-
 // Reads a VarUInt, a short one in place.
 #[inline(always)]
 #[tactic(auto, using(std::proofs::lemmas::Bool::Decides::nat_tests), unfolding(crate::specs::Answers::var_uint, crate::specs::Answers::var_number))]
@@ -136,12 +129,9 @@ pub fn read_var_uint(s: &[u8], at: usize, end: usize) -> Result<VarUInt, Refusal
         return Ok(number);
     }
     if outside(s, at, end) {
-        return Err(Refusal {
-            reason: Reason::Outside,
-            position: 0,
-        });
+        return Err(OUTSIDE);
     }
-    read_long(s, at, end)
+    read_groups(s, at, at, end, 0, Reason::VarUIntCut)
 }
 
 // Reads a VarInt.
@@ -150,10 +140,7 @@ pub fn read_var_int(s: &[u8], at: usize, end: usize) -> Result<VarInt, Refusal>
     ensures { var_int_read result ≡ var_int s.now at end }
 {
     if outside(s, at, end) {
-        return Err(Refusal {
-            reason: Reason::Outside,
-            position: 0,
-        });
+        return Err(OUTSIDE);
     }
     if at == end {
         return Err(Refusal {
@@ -186,10 +173,7 @@ pub fn read_int(s: &[u8], at: usize, end: usize, length: usize) -> Result<Int, R
     ensures { int_read result ≡ int s.now at end length }
 {
     if outside(s, at, end) {
-        return Err(Refusal {
-            reason: Reason::Outside,
-            position: 0,
-        });
+        return Err(OUTSIDE);
     }
     if length == 0 {
         return Ok(Int {

@@ -1,8 +1,7 @@
 -- A short field ID with something behind it is a name, and no other is said; a step that is entered behind it is the step.
 -- Assumes nothing.
 use Prim.Native.Nat.{ℕ, ◌+◌, ◌<◌}
-use native.Mathlib.Omega.{arith}
-use borrow.Author.Tests.{eq-eqb, ne_eqb, lt-leb}
+use borrow.Author.Tests.{eq-eqb, lt-leb}
 use mathlib.Core.Path.{◌≡◌, refl, ◌∙◌, sym, ap}
 use mathlib.Core.Bool.{false}
 use mathlib.Core.List.{List}

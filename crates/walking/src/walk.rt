@@ -322,8 +322,7 @@ impl Walk {
                     place = self.pass_value(depth, value, limits);
                 }
                 None => {
-                    let Ok(item) = item_from(rules, s, at, name.id, name.next, end, limits.bytes)
-                    else {
+                    let Ok(item) = item_from(rules, s, at, name, end, limits.bytes) else {
                         return count;
                     };
                     match item {

@@ -1,6 +1,6 @@
 -- `put_step` meets its contract: the end, a short value behind its name, or what else stands there, is what the step answers, and its words are put.
 use native.Mathlib.Omega.{arith}
-use Prim.Native.Nat.{ℕ, ◌+◌}
+use Prim.Native.Nat.{◌+◌}
 use mathlib.Core.Path.{◌≡◌, ◌∙◌, sym, ap}
 use lib.ListN.{get_or}
 use Rattle.std.specs.Option.{unwrap_or}
