@@ -4,7 +4,7 @@ ghost use Rattle.bodies.specs.Decimal.{decimal, decimal_rest, decimal_read};
 
 use numbers::binary_buffer;
 use numbers::int::Int;
-use numbers::refusal::{Reason, Refusal};
+use numbers::refusal::{OUTSIDE, Refusal};
 
 // The exponent's sign and magnitude, zero being positive, and the coefficient.
 #[derive(Clone, Copy, Debug, PartialEq, Eq)]
@@ -20,10 +20,7 @@ pub fn read_decimal(s: &[u8], start: usize, end: usize) -> Result<Decimal, Refus
     ensures { decimal_read result ≡ decimal s.now start end }
 {
     if binary_buffer::outside(s, start, end) {
-        return Err(Refusal {
-            reason: Reason::Outside,
-            position: 0,
-        });
+        return Err(OUTSIDE);
     }
     if start == end {
         return Ok(Decimal {

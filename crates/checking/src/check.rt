@@ -15,7 +15,7 @@ use crate::counts::{Counts, MARKERS, Progress, place_of};
 use crate::item::{Map, meet, read_item};
 use framing::encoded_value::EncodedValue;
 use framing::limits::out_of_range;
-use numbers::refusal::{Reason, Refusal};
+use numbers::refusal::{LIMIT_OUT_OF_RANGE, Reason, Refusal};
 use stepping::cursor::{Item, Rules};
 use values::value::open;
 use walking::walk::limits_out;
@@ -83,10 +83,7 @@ pub fn check_map(s: &[u8], limit: usize, deepest: usize) -> Result<Counts, Refus
     ensures { checked_read result ≡ check_of limit deepest s.now }
 {
     if limits_out(limit, deepest) {
-        return Err(Refusal {
-            reason: Reason::LimitOutOfRange,
-            position: 0,
-        });
+        return Err(LIMIT_OUT_OF_RANGE);
     }
     let map = Map { s, limit };
     let mut progress = Progress::none();
@@ -100,10 +97,7 @@ pub fn check_body(s: &[u8], rules: Rules, room: usize, limit: usize) -> Result<(
     ensures { done_read result ≡ limited_body limit room rules s.now }
 {
     if out_of_range(limit) {
-        return Err(Refusal {
-            reason: Reason::LimitOutOfRange,
-            position: 0,
-        });
+        return Err(LIMIT_OUT_OF_RANGE);
     }
     let map = Map { s, limit };
     let mut progress = Progress::none();

@@ -10,11 +10,11 @@ ghost use Rattle.symbols.specs.Text.{is_table, ruling_at, list_of, own_list, sys
 ghost use Rattle.symbols.specs.Read.{own_read, symbols_read, text_told, text_read};
 ghost use Rattle.symbols.specs.Private.Turned.{table_read, ruling_read, ruled_read, at_place};
 
-use crate::symbols::{OUTSIDE, SymbolText};
+use crate::symbols::SymbolText;
 use bodies::utf8::is_utf8;
 use framing::annotations_iterator::read_annotation;
 use framing::encoded_value::EncodedValue;
-use numbers::refusal::{Reason, Refusal};
+use numbers::refusal::{OUTSIDE, Reason, Refusal};
 use stepping::cursor::{Item, Rules, item_at};
 use values::value::{Span, is_typed};
 

@@ -12,7 +12,7 @@ use crate::symbol_table::{own_list, ruling_at, text_in};
 use crate::system_texts::is_system;
 use framing::limits::out_of_range;
 use numbers::binary_buffer::outside;
-use numbers::refusal::{Reason, Refusal};
+use numbers::refusal::{LIMIT_OUT_OF_RANGE, OUTSIDE, Reason, Refusal};
 use values::value::Span;
 
 // Where a symbol's text lies: nowhere, in the map, or in the system's texts. Each case tells something: no plainer as an Option.
@@ -22,12 +22,6 @@ pub enum SymbolText {
     Own(Span),
     System(Span),
 }
-
-// What is refused of a place or a part that is none.
-pub(crate) const OUTSIDE: Refusal = Refusal {
-    reason: Reason::Outside,
-    position: 0,
-};
 
 // The tests before all else: the system's texts, and the limit.
 fn lent_right(system: &[u8], limit: usize) -> Result<(), Refusal>
@@ -40,10 +34,7 @@ fn lent_right(system: &[u8], limit: usize) -> Result<(), Refusal>
         });
     }
     if out_of_range(limit) {
-        return Err(Refusal {
-            reason: Reason::LimitOutOfRange,
-            position: 0,
-        });
+        return Err(LIMIT_OUT_OF_RANGE);
     }
     Ok(())
 }

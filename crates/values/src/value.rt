@@ -20,7 +20,7 @@ use bodies::utf8::is_utf8;
 use framing::encoded_value::EncodedValue;
 use framing::limits::out_of_range;
 use numbers::binary_buffer::outside;
-use numbers::refusal::{Reason, Refusal};
+use numbers::refusal::{LIMIT_OUT_OF_RANGE, OUTSIDE, Reason, Refusal};
 use stepping::cursor::{Cursor, Item, Rules, item_at};
 use timestamps::timestamp::{Stamp, read_timestamp as read_body};
 
@@ -120,16 +120,10 @@ pub fn value_in(
     ensures { framed_read result ≡ value_in limit s.now start end at }
 {
     if out_of_range(limit) {
-        return Err(Refusal {
-            reason: Reason::LimitOutOfRange,
-            position: 0,
-        });
+        return Err(LIMIT_OUT_OF_RANGE);
     }
     if at < start || outside(s, at, end) {
-        return Err(Refusal {
-            reason: Reason::Outside,
-            position: 0,
-        });
+        return Err(OUTSIDE);
     }
     if at == end {
         return Err(Refusal {
@@ -380,10 +374,7 @@ pub fn read_placed(s: &[u8], value: EncodedValue) -> Result<Scalar, Refusal>
     ensures { scalar_read result ≡ scalar_in s.now (spans_of value) }
 {
     if outside(s, value.body, value.end) {
-        return Err(Refusal {
-            reason: Reason::Outside,
-            position: 0,
-        });
+        return Err(OUTSIDE);
     }
     Placed { s, value }.scalar()
 }
