@@ -2,6 +2,7 @@
 //
 // Each function reads the part at..end of `s`, whose first byte is the descriptor; `limit` is the most bytes that a value's annotations may have. The public ones
 // take these as parameters and no struct of them, since the layers above hand them on as C gave them; behind the first look they are in a `Described`.
+// What frames an item stands in its callers' place: without a call in it a step needs no frame on the stack, and a check or a pack takes a tenth less.
 ghost use Rattle.std.specs.Prelude.{◌≡◌, ℕ, ◌+◌, ◌≤◌, ◌<◌, length, get_or, IfOk};
 ghost use Rattle.framing.specs.Answers.{peeked_descriptor, is_pad, is_wrapper, no_value, pad_at, value_at, frame_at, read_value, read_frame, read_value_length, read_pad, read_wrapper};
 ghost use Rattle.framing.specs.Limits.{limited};
@@ -46,6 +47,7 @@ pub(crate) fn no_value(kind: Kind) -> bool
 }
 
 // Looks at the descriptor at `at`.
+#[inline(always)]
 #[tactic(auto, using(std::proofs::lemmas::Bool::Decides::nat_tests), unfolding(crate::specs::Answers::peeked_descriptor))]
 pub(crate) fn peek_type_descriptor(
     s: &[u8],
@@ -73,6 +75,7 @@ pub(crate) fn peek_type_descriptor(
 }
 
 // The pad that begins here.
+#[inline(always)]
 #[tactic(auto, using(std::proofs::lemmas::Bool::Decides::nat_tests), unfolding(crate::specs::Answers::pad_at, crate::specs::Answers::padded))]
 fn read_pad(place: Described) -> Result<NopPad, Refusal>
     ensures { pad_read result ≡ pad_at place.entry.s.now place.entry.at place.entry.end place.entry.descriptor }
@@ -102,6 +105,7 @@ fn differs(expected: usize, size: usize) -> bool
 }
 
 // The value that is located here, in the item at `at`, where it has this first byte and is to have this length.
+#[inline(always)]
 #[tactic(auto, using(std::proofs::lemmas::Bool::Decides::nat_tests), unfolding(crate::specs::Private::Located::fitted))]
 fn fit_value(at: usize, found: Located, byte: u8, size: Length) -> Result<EncodedValue, Refusal>
     requires { (found.value.at ≤ size.body) × (size.body ≤ found.value.end) }
@@ -132,6 +136,7 @@ fn fit_value(at: usize, found: Located, byte: u8, size: Length) -> Result<Encode
 }
 
 // The value that is located here, in the item at `at`.
+#[inline(always)]
 #[tactic(auto, using(std::proofs::lemmas::Bool::Decides::nat_tests), unfolding(crate::specs::Private::Located::located_value))]
 fn read_located_value(at: usize, located: Located) -> Result<EncodedValue, Refusal>
     ensures { framed_read result ≡ located_value located.entry.value.s.now at located.entry.value.end (location_of located.entry) }
@@ -142,6 +147,7 @@ fn read_located_value(at: usize, located: Located) -> Result<EncodedValue, Refus
 }
 
 // The value that begins here, with or without a wrapper.
+#[inline(always)]
 #[tactic(auto, using(std::proofs::lemmas::Bool::Decides::nat_tests, crate::proofs::Location::value_located))]
 fn read_value_at(place: Described, limit: usize) -> Result<EncodedValue, Refusal>
     ensures { framed_read result ≡ value_at limit place.entry.s.now place.entry.at place.entry.end place.entry.descriptor }
@@ -151,6 +157,7 @@ fn read_value_at(place: Described, limit: usize) -> Result<EncodedValue, Refusal
 }
 
 // The pad or the value that begins here.
+#[inline(always)]
 #[tactic(auto, using(std::proofs::lemmas::Bool::Decides::nat_tests), unfolding(crate::specs::Answers::frame_at))]
 fn read_frame_at(place: Described, limit: usize) -> Result<Frame, Refusal>
     ensures { frame_read result ≡ frame_at limit place.entry.s.now place.entry.at place.entry.end place.entry.descriptor }
@@ -239,6 +246,7 @@ pub fn short_value(s: &[u8], at: usize, end: usize) -> Option<Length>
 }
 
 // The pad or the value at `at`.
+#[inline(always)]
 #[tactic(auto, using(std::proofs::lemmas::Bool::Decides::nat_tests), unfolding(crate::specs::Answers::read_frame))]
 pub fn read_frame(s: &[u8], at: usize, end: usize, limit: usize) -> Result<Frame, Refusal>
     ensures { frame_read result ≡ limited limit (read_frame limit s.now at end) }

@@ -180,6 +180,7 @@ pub(crate) fn too_short(descriptor: TypeDescriptor, size: usize) -> bool
 }
 
 // Tests the length of the value with this descriptor at `at`.
+#[inline(always)]
 #[tactic(auto, using(std::proofs::lemmas::Bool::Decides::nat_tests), unfolding(crate::specs::Answers::length_tests))]
 fn check_length(at: usize, descriptor: TypeDescriptor, length: Length) -> Result<Length, Refusal>
     ensures { length_read result ≡ length_tests at descriptor.type_code descriptor.length_code (sized_of length) }
@@ -206,6 +207,7 @@ fn check_length(at: usize, descriptor: TypeDescriptor, length: Length) -> Result
 }
 
 // The length of the value that begins here.
+#[inline(always)]
 #[tactic(auto, using(std::proofs::lemmas::Bool::Decides::nat_tests), unfolding(crate::specs::Answers::value_length))]
 pub(crate) fn value_length(place: Described) -> Result<Length, Refusal>
     ensures { length_read result ≡ value_length place.entry.s.now place.entry.at place.entry.end place.entry.descriptor }
