@@ -7,8 +7,9 @@ ghost use Rattle.additions.specs.Exported.{exported_bounded, bounded_words};
 
 use counting::counted::{Bounded, bounded_at};
 use framing::limits::out_of_range;
+use numbers::refusal::{LIMIT_OUT_OF_RANGE, OUTSIDE};
 use records::buffer::{RECORD_WORDS, put_record};
-use records::words::{LIMIT_OUT_OF_RANGE, OUTSIDE, item_words, more_words, refused_words};
+use records::words::{item_words, more_words, refused_words};
 use stepping::cursor::Rules;
 
 // The words of a bounded step's answer.

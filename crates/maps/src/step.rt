@@ -1,7 +1,7 @@
 // A step whose record is put into a lent buffer.
 //
-// `limit` is the most bytes that a value's annotations may have. A part's slice, its places and its limit are parameters of their own, since the exports to C
-// hand them on as they came.
+// `limit` is the most bytes that a value's annotations may have. A part's slice, its places and its limit are parameters of their own: the exports to C hand
+// them on to `part_rules` as they came, and for `put_step` and `put_long` a struct of them would be made at each call.
 ghost use Rattle.std.specs.Prelude.{◌≡◌};
 ghost use Rattle.numbers.specs.Read.{outcome};
 ghost use Rattle.stepping.specs.Answers.{answer_at};
@@ -15,11 +15,9 @@ ghost use Rattle.maps.specs.Put.{put_by};
 use framing::binary_buffer::short_value;
 use framing::limits::out_of_range;
 use numbers::binary_buffer::outside;
-use numbers::refusal::Refusal;
+use numbers::refusal::{LIMIT_OUT_OF_RANGE, OUTSIDE, Refusal};
 use records::buffer::put_record;
-use records::words::{
-    LIMIT_OUT_OF_RANGE, OUTSIDE, bare_words, end_words, item_words, refused_words,
-};
+use records::words::{bare_words, end_words, item_words, refused_words};
 use std::ops::ControlFlow;
 use stepping::cursor::{Name, Rules, item_from, left_by, rules_of, short_name};
 
@@ -106,6 +104,7 @@ pub fn put_step(
             return ControlFlow::Continue(past);
         }
     }
+    // None as a name of no bytes: `item_from` takes a name that is still to be read.
     let name = short.unwrap_or(Name { id: 0, next: at });
     put_long(rules, map, at, name, end, limit, out)
 }

@@ -15,12 +15,10 @@ ghost use Rattle.readings.specs.Forms.{form_number};
 use crate::form::Form;
 use framing::annotations_iterator::{Annotation, read_annotation};
 use numbers::binary_buffer::{read_int, read_var_int, read_var_uint};
-use numbers::refusal::Refusal;
+use numbers::refusal::{OUTSIDE, Refusal};
 use records::buffer::{RECORD_WORDS, put_record};
 use records::number::Number;
-use records::words::{
-    OUTSIDE, annotation_words, body_words, number_words, refused_words, scalar_words,
-};
+use records::words::{annotation_words, body_words, number_words, refused_words, scalar_words};
 use values::value::{open, read_with_value, value_in};
 
 // One annotation step over the bytes start..end.

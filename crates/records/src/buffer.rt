@@ -25,7 +25,7 @@ fn put_words(out: &mut [u8], words: &[u64])
     }
 }
 
-// The number that a record tells: a refusal's, else 0.
+// The number that a record tells: a refusal's, else 0. From the words, as C reads them: an answer given beside them would have to be proved to agree.
 #[tactic(auto, using(crate::proofs::Storing::told))]
 fn number_in(words: &[u64]) -> u64
     ensures { result ≡ number_in words.now }

@@ -20,8 +20,8 @@ pub fn counts_words(counts: [u64; 15]) -> [u64; CHECK_WORDS]
     words
 }
 
-// The words of a check that is refused: those of any refusal, and zeros. One function over the number of words, for both records, proves too and is longer:
-// it could not ask for three words at least, and so would have to say what fewer hold.
+// The words of a check that is refused: those of any refusal, and zeros. One function over the number of words, for both records, is longer: it could not ask
+// for three words at least, and so would have to say what fewer hold.
 pub fn refused_check_words(refusal: Refusal) -> [u64; CHECK_WORDS]
     ensures { result ≡ check_words (refusal_read refusal) }
 {

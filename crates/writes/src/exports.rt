@@ -7,10 +7,10 @@ ghost use Rattle.writing.specs.Answers.{write_of, limited_write, buffer_after};
 ghost use Rattle.writing.specs.Read.{written_read};
 ghost use Rattle.writes.specs.Writes.{flagged, flag_read, flag_of, Wrote};
 
-use numbers::refusal::{Reason, Refusal};
+use numbers::refusal::{OUTSIDE, Reason, Refusal};
 use records::buffer::{RECORD_SIZE, put_record};
 use records::kind::RecordKind;
-use records::words::{OUTSIDE, bytes_words};
+use records::words::bytes_words;
 use writing::container::write_container;
 use writing::pad::write_pad;
 use writing::scalar::{write_bool, write_float, write_int, write_null, write_scalar, write_symbol};
@@ -32,7 +32,7 @@ fn put_written<F: FnOnce(&mut [u8]) -> Result<usize, Refusal>>(
     put_record(out, bytes_words(RecordKind::Written, write(to)))
 }
 
-// A flag: 0 or 1.
+// A flag: 0 or 1. By a match: std has no `TryFrom` of a number for a bool.
 fn flag(value: u64) -> Result<bool, Refusal>
     ensures { flag_read result ≡ flag_of value }
 {
