@@ -20,8 +20,8 @@ struct Steps {
     number: u64,
 }
 
-// Puts the records of steps from `position` on, as many as there is room for. Over the parts of the buffer the loop would be no plainer: they are counted
-// anyway, since how many were put is returned.
+// Puts the records of steps from `position` on, as many as there is room for. Not over `chunks_exact_mut`: the library does not say what a buffer holds once
+// the parts that it lends were written.
 fn put_steps(
     rules: Rules,
     map: &[u8],

@@ -25,6 +25,7 @@ use stepping::cursor::{Name, Rules, item_from, left_by, rules_of, short_name};
 const LAST_KIND: u64 = 2;
 
 // The rules of the part start..end of the map, by its kind, where the limit is one, `at` is in the part, and there is such a kind.
+#[tactic(auto, using(std::proofs::lemmas::Bool::Decides::nat_tests), unfolding(numbers::specs::Outcome::outside_of))]
 pub fn part_rules(
     map: &[u8],
     start: usize,
@@ -38,7 +39,7 @@ pub fn part_rules(
     if out_of_range(limit) {
         return Err(LIMIT_OUT_OF_RANGE);
     }
-    if map.len() < end || end < at || at < start || LAST_KIND < kind {
+    if outside(map, at, end) || at < start || LAST_KIND < kind {
         return Err(OUTSIDE);
     }
     Ok(rules_of(kind))

@@ -13,7 +13,8 @@ const WORD_SIZE: usize = 8;
 
 pub const RECORD_SIZE: usize = RECORD_WORDS * WORD_SIZE;
 
-// Puts words at the buffer's start, each with its least significant byte first.
+// Puts words at the buffer's start, each with its least significant byte first. Over `chunks_exact_mut` the proof did not close: the library does not say what
+// a buffer holds once the parts that it lends were written.
 #[tactic(auto, using(crate::proofs::Storing::stored))]
 fn put_words(out: &mut [u8], words: &[u64])
     requires { length words.now * word_size ≤ length out.old }

@@ -1,6 +1,7 @@
 // The words of each kind of record: arrays, since there is no heap and C is given nine words.
 //
-// `as u64` of a `usize`: std has no `From` for it, and each is proved to lose nothing; of an enum it is the case's own number.
+// `as u64` of a `usize`: std has no `From` for it, and each is proved to lose nothing; of an enum it is the case's own number. The arm of a refusal stands in
+// each function: by `map_or_else` the proof did not close.
 ghost use Rattle.std.specs.Prelude.{◌≡◌, ◌+◌, ◌-◌, [], ◌∷◌};
 ghost use Rattle.numbers.specs.Outcome.{and_then, gives};
 ghost use Rattle.numbers.specs.Read.{outcome};
