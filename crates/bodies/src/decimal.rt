@@ -6,7 +6,7 @@ use numbers::binary_buffer;
 use numbers::int::Int;
 use numbers::refusal::{OUTSIDE, Refusal};
 
-// The exponent's sign and magnitude, zero being positive, and the coefficient.
+// The exponent's sign and magnitude, zero being positive, and the coefficient. A sign beside a magnitude, as the definition of an answer has them.
 #[derive(Clone, Copy, Debug, PartialEq, Eq)]
 pub struct Decimal {
     pub exponent_negative: bool,

@@ -1,4 +1,4 @@
-// Text: whether bytes are well-formed UTF-8.
+// Text: whether bytes are well-formed UTF-8. It takes the slice and a part of it, and not the part alone, as `lib.rt` says.
 ghost use Rattle.std.specs.Prelude.{◌≡◌};
 ghost use Rattle.bodies.specs.Utf8.{utf8};
 

@@ -70,6 +70,7 @@ pub fn put_var_uint_in(out: &mut [u8], at: usize, k: usize, n: usize)
         return;
     }
     let most = k.min(out.len() - at);
+    // By places: a digit is told by how many follow it.
     for i in 0..most {
         out[at + i] = digit(n, k - i) as u8;
     }

@@ -1,8 +1,8 @@
 // What goes before the body of a value: its descriptor, and its length.
-ghost use Rattle.std.specs.Prelude.{◌≡◌, ◌+◌, ◌≤◌, length};
+ghost use Rattle.std.specs.Prelude.{◌≡◌};
 ghost use Rattle.packing.specs.Tree.{kept_byte, header_of};
 ghost use Rattle.packing.specs.Private.Kinds.{kind_of};
-ghost use Rattle.packing.specs.Private.Puts.{Puts};
+ghost use Rattle.packing.specs.Private.Puts.{HasRoom, Puts};
 ghost use Rattle.packing.specs.Private.Sizes.{header_size};
 
 use crate::output::Output;
@@ -68,7 +68,7 @@ impl<'a> Output<'a> {
     // Puts a descriptor and the length of a body of `n` bytes.
     #[tactic(auto, unfolding(crate::specs::Tree::header_of, crate::specs::Private::Sizes::header_size, crate::specs::Private::Kinds::kind_of))]
     pub(crate) fn put_header(&mut self, byte: u8, n: usize)
-        requires { self.old.next + header_size byte n ≤ length self.old.out.now }
+        requires { HasRoom self.old (header_size byte n) }
         ensures { Puts self.old (header_of byte n) self.new }
     {
         match Kind::from(byte) {

@@ -1,8 +1,8 @@
 // The lent buffer that a map is packed into, and where the next byte goes: there is no heap, so no `Vec` that grows.
-ghost use Rattle.std.specs.Prelude.{◌≡◌, ◌+◌, ◌≤◌, ◌/◌, length};
+ghost use Rattle.std.specs.Prelude.{◌/◌, length};
 ghost use Rattle.encoding.specs.Fields.{var_uint_bytes, var_uint_size};
 ghost use Rattle.encoding.specs.Heads.{head_bytes, head_size};
-ghost use Rattle.packing.specs.Private.Puts.{Puts};
+ghost use Rattle.packing.specs.Private.Puts.{HasRoom, Puts};
 
 use encoding::put::{head_size, put_bytes, put_head, put_var_uint, var_uint_size};
 
@@ -15,7 +15,7 @@ pub(crate) struct Output<'a> {
 impl<'a> Output<'a> {
     // Puts bytes.
     pub(crate) fn put(&mut self, bytes: &[u8])
-        requires { self.old.next + length bytes.now ≤ length self.old.out.now }
+        requires { HasRoom self.old (length bytes.now) }
         ensures { Puts self.old bytes.now self.new }
     {
         put_bytes(self.out, self.next, bytes);
@@ -25,7 +25,7 @@ impl<'a> Output<'a> {
     // Puts a VarUInt.
     #[tactic(auto, using(encoding::proofs::VarUInts::bytes_size))]
     pub(crate) fn put_var_uint(&mut self, n: usize)
-        requires { self.old.next + var_uint_size n ≤ length self.old.out.now }
+        requires { HasRoom self.old (var_uint_size n) }
         ensures { Puts self.old (var_uint_bytes n) self.new }
     {
         put_var_uint(self.out, self.next, n);
@@ -35,7 +35,7 @@ impl<'a> Output<'a> {
     // Puts the descriptor of the type of `byte`, and the length field of `n` bytes.
     #[tactic(auto, using(encoding::proofs::Heads::head_length))]
     pub(crate) fn put_head(&mut self, byte: u8, n: usize)
-        requires { self.old.next + head_size n ≤ length self.old.out.now }
+        requires { HasRoom self.old (head_size n) }
         ensures { Puts self.old (head_bytes (byte / 16) n) self.new }
     {
         put_head(self.out, self.next, byte, n);

@@ -12,7 +12,9 @@ use numbers::binary_buffer;
 use numbers::refusal::{Reason, Refusal};
 
 // How far a timestamp goes (1 year, 2 month, 3 day, 4 minute, 5 second, 6 fraction), its offset's minutes and 1440 or 0
-// where it is unknown, its fields in UTC, absent ones 0, and its fraction's exponent and coefficient.
+// where it is unknown, its fields in UTC, absent ones 0, and its fraction's exponent and coefficient. Numbers and zeros,
+// as the record of a stamp that C is given has them; the exponent's sign is beside its magnitude, as the definition of an
+// answer has it.
 #[derive(Clone, Copy, Debug, PartialEq, Eq)]
 pub struct Stamp {
     pub precision: u8,
@@ -28,15 +30,15 @@ pub struct Stamp {
     pub coefficient: u64,
 }
 
-// The offset's VarInt.
-#[derive(Clone, Copy)]
+// The offset's VarInt: its sign beside its magnitude, as the definition of an answer has them.
+#[derive(Clone, Copy, Debug, PartialEq, Eq)]
 pub struct Offset {
     pub negative: bool,
     pub minutes: usize,
 }
 
 // The fields that were read, how many they are, and 0, no `None`, for each of the others: a stamp has them so, and the record of a stamp that C is given.
-#[derive(Clone, Copy)]
+#[derive(Clone, Copy, Debug, PartialEq, Eq)]
 pub struct Fields {
     pub count: usize,
     pub year: usize,
@@ -47,8 +49,8 @@ pub struct Fields {
     pub second: usize,
 }
 
-// A fraction's exponent, and its coefficient's sign and magnitude.
-#[derive(Clone, Copy, Default)]
+// A fraction's exponent and its coefficient: each a sign beside a magnitude, as the definition of an answer has them.
+#[derive(Clone, Copy, Debug, Default, PartialEq, Eq)]
 pub struct Fraction {
     pub exponent_negative: bool,
     pub exponent: usize,
@@ -85,19 +87,12 @@ fn time_out(fields: Fields) -> bool
 }
 
 // Whether a coefficient is at least ten to the power of `places`.
-#[tactic(auto, using(crate::proofs::Powers::digit_passed, crate::proofs::Powers::below_power, crate::proofs::Powers::at_least_one))]
+#[tactic(auto, using(crate::proofs::Powers::by_power, crate::proofs::Powers::below_power))]
 fn reaches_one(coefficient: u64, places: usize) -> bool
     ensures { result ≡ leb (10 ^ places) coefficient }
 {
-    let mut whole = coefficient;
-    // A turn for each digit: there is no slice of them to go over.
-    for _ in 0..places {
-        if whole == 0 {
-            return false;
-        }
-        whole /= 10;
-    }
-    0 < whole
+    // (`as`: std has no `From` of a `u32` for a `usize`.)
+    coefficient != 0 && places <= coefficient.ilog10() as usize
 }
 
 // Whether the fraction is below 0 or at least 1.
@@ -249,6 +244,7 @@ fn read_fields(s: &[u8], at: usize, end: usize) -> Result<FieldsRead, Refusal>
 {
     // Six places, since there is no heap: a stamp has a 0 for each field that was not read.
     let mut values = [0usize; 6];
+    // Counted beside the `for`: it is asked for behind the loop, and the index of an `enumerate` would be kept in a variable all the same.
     let mut count = 0;
     let mut next = at;
     for value in &mut values {

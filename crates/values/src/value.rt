@@ -21,6 +21,7 @@ use framing::encoded_value::EncodedValue;
 use framing::limits::out_of_range;
 use numbers::binary_buffer::outside;
 use numbers::refusal::{LIMIT_OUT_OF_RANGE, OUTSIDE, Reason, Refusal};
+use numbers::type_descriptor::FIRST_NO_PAD;
 use stepping::cursor::{Cursor, Item, Rules, item_at};
 use timestamps::timestamp::{Stamp, read_timestamp as read_body};
 
@@ -86,9 +87,6 @@ pub enum TimestampRead {
     Other { value: EncodedValue, scalar: Scalar },
 }
 
-// The first descriptor byte that begins no pad.
-const FIRST_NO_PAD: u8 = 15;
-
 // The type code of a timestamp: this and those below are the document's own numbers.
 const TIMESTAMP: u8 = 6;
 
@@ -140,7 +138,7 @@ pub fn value_in(
     value_of(at, item_at(Rules::Sequence, s, at, end, limit))
 }
 
-// Whether a value is of a type, by its code, and not null.
+// Whether a value is of a type, by its code, and not null. By the byte's halves, here and below: a descriptor would be made with its kind for each test.
 #[tactic(auto, using(crate::proofs::Tests::tests))]
 pub fn is_typed(value: EncodedValue, type_code: u8) -> bool
     ensures { result ≡ pick (eqb (code_of (spans_of value)) 15) false (eqb (type_of (spans_of value)) type_code) }
@@ -201,6 +199,7 @@ fn read_bool(value: EncodedValue) -> Result<Scalar, Refusal>
     Ok(Scalar::Bool(code == 1))
 }
 
+// A positive int, and below a negative one: two functions, as the document has two types, of which only the second has a reading that is refused.
 #[tactic(auto, using(crate::proofs::Tests::tests), unfolding(crate::specs::Scalars::positive_of))]
 fn read_positive(s: &[u8], value: EncodedValue) -> Scalar
     ensures { gives (scalar_told result) ≡ positive_of s.now (spans_of value) }

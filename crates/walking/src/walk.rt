@@ -14,7 +14,7 @@ use framing::binary_buffer::{bare_value, short_value};
 use framing::encoded_value::EncodedValue;
 use framing::limits::out_of_range;
 use numbers::binary_buffer::outside;
-use numbers::refusal::{Reason, Refusal};
+use numbers::refusal::{LIMIT_OUT_OF_RANGE, Reason, Refusal};
 use stepping::cursor::{Item, Rules, item_at, item_from, read_name};
 use values::value::is_container;
 
@@ -26,7 +26,8 @@ const MOST_DEPTH: usize = 64;
 // The parts that a walk can be in: the stream, and a body for each depth.
 pub const PARTS: usize = MOST_DEPTH + 1;
 
-// A part that a walk is in: where it ends, and whether it is the body of a struct.
+// A part that a walk is in: where it ends, and whether it is the body of a struct. A flag, and no rules: at depth 0 a walk goes by the stream's, whatever
+// stands here.
 #[derive(Clone, Copy)]
 pub struct Part {
     pub end: usize,
@@ -52,7 +53,7 @@ pub struct Walked {
 }
 
 // What of a walk is no part. The count holds it by itself, in registers: in a walk that is written to, it would be read from memory for each item, which takes
-// a tenth more time.
+// a tenth more time. A walk has these fields and no place: a caller's state has them so, as the definition of an answer has.
 #[derive(Clone, Copy)]
 struct Place {
     depth: usize,
@@ -127,6 +128,7 @@ fn rules_at(depth: usize, fields: bool) -> Rules
     }
 }
 
+// Short for what many exits give.
 fn refused(depth: usize, reason: Reason, position: usize) -> Seen
     ensures { seen_read result ≡ visit depth (refuses (number_of reason) position) }
 {
@@ -174,10 +176,7 @@ impl Walk {
         let Some(limits) = Limits::new(limit, deepest) else {
             return Walked {
                 depth: 0,
-                item: Err(Refusal {
-                    reason: Reason::LimitOutOfRange,
-                    position: 0,
-                }),
+                item: Err(LIMIT_OUT_OF_RANGE),
                 next: self,
             };
         };
@@ -243,6 +242,7 @@ impl Walk {
             };
         }
         let inner = depth + 1;
+        // By the byte, as `values::open` has it: the count comes here for each container, and that would test again that it is one.
         self.parts[inner] = Part {
             end: value.end,
             fields: value.byte / 16 == 13,

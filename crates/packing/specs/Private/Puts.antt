@@ -1,8 +1,12 @@
 -- What is put into the buffer that a map is packed into.
 -- Assumes nothing.
-use Rattle.std.specs.Prelude.{ℕ, ◌+◌, ◌≡◌, List, length}
+use Rattle.std.specs.Prelude.{ℕ, ◌+◌, ◌≡◌, ◌≤◌, List, length}
 use Rattle.std.proofs.lemmas.List.Edits.{sets}
 use Rattle.packing.specs.declared.output.Output.{Output}
+
+-- so many bytes more fit
+abbrev pub HasRoom : Output → ℕ → Type 0
+HasRoom output n = output.next + n ≤ length output.out.now
 
 -- these bytes are put: they stand in the same buffer where the next byte went, and the next goes behind them
 abbrev pub Puts : Output → List ℕ → Output → Type 0
