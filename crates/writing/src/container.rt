@@ -17,7 +17,8 @@ const SEXP: usize = 12;
 
 const STRUCT: usize = 13;
 
-// The rules of a container's body, by its type; None for a type that is no container's. The crates below have them by a descriptor, and there is none yet.
+// The rules of a container's body, by its type; None for a type that is no container's. By a descriptor made for it, as `judge_scalar` does, it is longer: the
+// code would first be tested to fit one.
 #[tactic(auto, using(std::proofs::lemmas::Bool::Decides::nat_tests), unfolding(crate::specs::Answers::is_container))]
 fn rules_of(type_code: usize) -> Option<Rules>
     ensures { MatchOption result (is_container type_code ≡ false) (λ r. (is_container type_code ≡ true) × (r ≡ rules_of type_code)) }

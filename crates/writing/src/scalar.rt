@@ -183,6 +183,7 @@ pub fn write_scalar(type_code: usize, body: &[u8], to: &mut [u8]) -> Result<usiz
     if !has_body(type_code) {
         return refused(Reason::Outside, 0);
     }
+    // By `as`: the code is in range, and `u8::try_from` would have a refusal that never comes.
     let Some(value) = Typed::new(type_code as u8, body) else {
         return refused(Reason::NoSuchLength, 0);
     };

@@ -114,7 +114,8 @@ impl<'a> Wrapper<'a> {
         self.judge_parts(inner.end, limits)
     }
 
-    // Puts it at the buffer's start, if it fits.
+    // Puts it at the buffer's start, if it fits. `put_wrap` of packing puts the same before a value that is not packed yet: a function for both would be public
+    // in encoding, and ask for room.
     #[tactic(auto, using(numbers::proofs::Passing::passed_on, crate::proofs::Lengths::wrapper_put))]
     fn put(self, to: &mut [u8]) -> Result<usize, Refusal>
         ensures answers { written_read result ≡ fitted (length to.old) (length (wrapper_bytes self.entry.annotations.now self.entry.value.now)) done }

@@ -11,6 +11,7 @@ use numbers::refusal::{Reason, Refusal};
 // The most bytes of a length field.
 pub(crate) const MOST_BYTES: usize = 9;
 
+// Short for what many exits give.
 pub(crate) fn refused<T>(reason: Reason, position: usize) -> Result<T, Refusal>
     ensures { result ≡ Err (record { reason = reason; position = position }) }
 {
