@@ -18,7 +18,7 @@ use framing::limits::out_of_range;
 use numbers::refusal::{LIMIT_OUT_OF_RANGE, Reason, Refusal};
 use stepping::cursor::{Item, Rules};
 use values::value::open;
-use walking::walk::limits_out;
+use walking::walk::Limits;
 
 // How much deeper a container's own values may be at least, for it to be entered.
 const LEAST_ROOM: usize = 1;
@@ -82,12 +82,15 @@ fn check_value(
 pub fn check_map(s: &[u8], limit: usize, deepest: usize) -> Result<Counts, Refusal>
     ensures { checked_read result ≡ check_of limit deepest s.now }
 {
-    if limits_out(limit, deepest) {
+    let Some(limits) = Limits::new(limit, deepest) else {
         return Err(LIMIT_OUT_OF_RANGE);
-    }
-    let map = Map { s, limit };
+    };
+    let map = Map {
+        s,
+        limit: limits.bytes,
+    };
     let mut progress = Progress::none();
-    check_part(&map, &mut progress, Rules::Stream, deepest, s.len())?;
+    check_part(&map, &mut progress, Rules::Stream, limits.depth, s.len())?;
     Ok(progress.counts)
 }
 

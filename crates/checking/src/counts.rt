@@ -16,7 +16,7 @@ pub struct Counts {
     pub places: [u64; PLACES],
 }
 
-// The place of a type's count: those of positive and negative ints have one.
+// The place of a type's count: those of positive and negative ints have one. A type code is the document's own number.
 #[tactic(auto, unfolding(crate::specs::Counts::type_place))]
 pub(crate) fn place_of(type_code: u8) -> usize
     ensures { result ≡ type_place type_code }

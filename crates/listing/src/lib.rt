@@ -16,7 +16,7 @@ const ANNOTATION_LIMIT: usize = 255;
 
 const DEPTH_LIMIT: usize = 32;
 
-// The name of a type, by its code.
+// The name of a type, by its code. A type code is the document's own number.
 pub fn type_name(code: u8) -> &'static str {
     match code {
         0 => "null",

@@ -28,7 +28,7 @@ where
     left(words, returned, &out)
 }
 
-// Lends it the other one too.
+// Lends it the other one too. Two functions, as the header's have one buffer or two: a closure of both forms would take a buffer that it leaves alone.
 pub fn lend_both<F>(words: &mut Words, call: F) -> Said
 where
     F: FnOnce(&mut [u8], &mut [u8], &mut Words) -> Result<u64, AllocError> + Drop,

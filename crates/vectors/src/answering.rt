@@ -39,7 +39,7 @@ impl From<AllocError> for Failure {
 
 pub type Answer = Result<String, Failure>;
 
-// A refusal in words.
+// A refusal in words. `listing` has the same in its lines: a test takes nothing from what it tests.
 #[derive(Clone, Copy)]
 pub struct Refused(pub Refusal);
 

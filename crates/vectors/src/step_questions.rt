@@ -66,7 +66,8 @@ where
     Ok(line)
 }
 
-// `streamleft BYTES AT END COUNT LIMIT`, `sequenceleft ..` and `structleft ..`: the cursor that so many steps leave.
+// `streamleft BYTES AT END COUNT LIMIT`, `sequenceleft ..` and `structleft ..`: the cursor that so many steps leave. The loop is that of
+// `steps`, which does something with each step: in one function a closure would be made here that does nothing.
 pub fn left<F>(part: Part, words: &mut Words, next: F) -> Answer
 where
     F: Fn(Cursor, &[u8], usize) -> Step + Drop,

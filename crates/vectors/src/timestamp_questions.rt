@@ -44,11 +44,8 @@ impl fmt::Display for Attoseconds {
         if PLACES < exponent {
             return write!(f, "more than {PLACES} places");
         }
-        write!(f, "{coefficient}")?;
-        for _ in exponent..PLACES {
-            write!(f, "0")?;
-        }
-        Ok(())
+        let width = PLACES - exponent;
+        write!(f, "{coefficient}{:0<width$}", "")
     }
 }
 

@@ -6,7 +6,7 @@ ghost use Rattle.writing.specs.Read.{written_read};
 
 use crate::written::{Typed, refused};
 use checking::check::check_body;
-use numbers::refusal::{Reason, Refusal};
+use numbers::refusal::{LIMIT_OUT_OF_RANGE, OUTSIDE, Reason, Refusal};
 use stepping::cursor::Rules;
 use walking::walk::Limits;
 
@@ -44,10 +44,10 @@ pub fn write_container(
     ensures puts { to.new ≡ buffer_after (written (container type_code body.now)) to.old (written_read result) }
 {
     let Some(limits) = Limits::new(limit, deepest) else {
-        return refused(Reason::LimitOutOfRange, 0);
+        return Err(LIMIT_OUT_OF_RANGE);
     };
     let Some(rules) = rules_of(type_code) else {
-        return refused(Reason::Outside, 0);
+        return Err(OUTSIDE);
     };
     // By `as`: the code is in range, and `u8::try_from` would have a refusal that never comes.
     let Some(value) = Typed::new(type_code as u8, body) else {

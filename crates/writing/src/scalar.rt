@@ -10,7 +10,7 @@ use crate::written::{Typed, refused, room_for};
 use bodies::magnitude::significant;
 use checking::item::read_body;
 use framing::binary_buffer::bare_value;
-use numbers::refusal::{Reason, Refusal};
+use numbers::refusal::{OUTSIDE, Reason, Refusal};
 use values::value::read_placed;
 
 // The type codes of what is written: the document's own numbers, as callers in C have them.
@@ -64,7 +64,7 @@ pub fn write_null(type_code: usize, to: &mut [u8]) -> Result<usize, Refusal>
     ensures puts { to.new ≡ buffer_after (written (null type_code)) to.old (written_read result) }
 {
     let Some(byte) = null_byte(type_code) else {
-        return refused(Reason::Outside, 0);
+        return Err(OUTSIDE);
     };
     put_one(to, byte)
 }
@@ -181,7 +181,7 @@ pub fn write_scalar(type_code: usize, body: &[u8], to: &mut [u8]) -> Result<usiz
     ensures puts { to.new ≡ buffer_after (written (scalar type_code body.now)) to.old (written_read result) }
 {
     if !has_body(type_code) {
-        return refused(Reason::Outside, 0);
+        return Err(OUTSIDE);
     }
     // By `as`: the code is in range, and `u8::try_from` would have a refusal that never comes.
     let Some(value) = Typed::new(type_code as u8, body) else {

@@ -17,7 +17,7 @@ use checking::item::read_ids;
 use encoding::put::{head_size, put_bytes, put_head, put_var_uint, var_uint_size};
 use framing::binary_buffer::read_value;
 use framing::encoded_value::EncodedValue;
-use numbers::refusal::{Reason, Refusal};
+use numbers::refusal::{LIMIT_OUT_OF_RANGE, Reason, Refusal};
 use numbers::type_descriptor::{Kind, TypeDescriptor};
 use stepping::cursor::Rules;
 use walking::walk::Limits;
@@ -148,7 +148,7 @@ pub fn write_wrapper(
     ensures puts { to.new ≡ buffer_after (written (wrapper annotations.now value.now)) to.old (written_read result) }
 {
     let Some(limits) = Limits::new(limit, deepest) else {
-        return refused(Reason::LimitOutOfRange, 0);
+        return Err(LIMIT_OUT_OF_RANGE);
     };
     let Some(wrapper) = Wrapper::new(annotations, value) else {
         return refused(Reason::NoSuchLength, 0);
