@@ -55,7 +55,8 @@ pub fn put_bytes(out: &mut [u8], at: usize, from: &[u8])
         return;
     }
     let n = from.len().min(out.len() - at);
-    // Byte by byte: by `copy_from_slice` the archive would ask its programs for `memmove`, where it asks for `memcpy` alone.
+    // Byte by byte: by `copy_from_slice` the archive would ask its programs for `memmove`, where it asks for `memcpy` alone. By
+    // places and not over two slices: the contract tells a byte by where it stands in the whole buffer.
     for i in 0..n {
         out[at + i] = from[i];
     }
