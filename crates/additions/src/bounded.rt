@@ -12,7 +12,7 @@ use records::buffer::{RECORD_WORDS, put_record};
 use records::words::{item_words, more_words, refused_words};
 use stepping::cursor::Rules;
 
-// The words of a bounded step's answer.
+// The words of a bounded step's answer. The arm of a refusal stands here too, as in the words of `records`.
 fn bounded_words(answer: Bounded) -> [u64; RECORD_WORDS]
     ensures { result ≡ bounded_words (bounded_read answer) }
 {

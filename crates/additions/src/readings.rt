@@ -62,7 +62,7 @@ pub fn ion_map_timestamp(
     )
 }
 
-// The words of a check's answer.
+// The words of a check's answer. The arm of a refusal stands here too, as in the words of `records`.
 fn check_words(checked: Result<Counts, Refusal>) -> [u64; CHECK_WORDS]
     ensures { result ≡ check_words (checked_read checked).outcome }
 {

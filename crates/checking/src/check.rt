@@ -62,6 +62,7 @@ fn check_value(
     ensures passed { OnOk result (progress.new.at ≡ value.end) }
 {
     read_item(map.s, value)?;
+    // By the byte's halves, as in `values`: a descriptor would be made with its kind for each test.
     let place = place_of(value.byte / 16);
     let Ok(body) = open(value) else {
         progress.pass(place, 1, value.end);

@@ -23,6 +23,7 @@ use timestamps::timestamp::read_timestamp;
 use values::value::{Scalar, read_placed};
 
 // The map that is checked, and the most bytes that its values' annotations may have: what a call of each level has in one place.
+// Apart from `Progress`, which the calls change: they only read this.
 #[derive(Clone, Copy)]
 pub(crate) struct Map<'a> {
     pub(crate) s: &'a [u8],

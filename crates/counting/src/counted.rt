@@ -50,7 +50,7 @@ fn begins_pad(byte: u8) -> bool
     byte < FIRST_NO_PAD
 }
 
-// A step that is refused before anything is read.
+// A step that is refused before anything is read. By its reason: `numbers` names two of the three refusals that are given so, and none has counts.
 fn refused_at_once(reason: Reason) -> Bounded
     ensures { bounded_read result ≡ reached (unbegun (number_of reason)) }
 {

@@ -55,7 +55,7 @@ pub fn put_bytes(out: &mut [u8], at: usize, from: &[u8])
         return;
     }
     let n = from.len().min(out.len() - at);
-    // Byte by byte: by `copy_from_slice` the archive would ask its programs for `memmove`, where it asks for `memcpy` alone. By
+    // Byte by byte: by `copy_from_slice` the archive would ask its programs for `memmove`, beside `memset` and `memcpy`. By
     // places and not over two slices: the contract tells a byte by where it stands in the whole buffer.
     for i in 0..n {
         out[at + i] = from[i];
@@ -86,7 +86,7 @@ pub fn put_var_uint(out: &mut [u8], at: usize, n: usize)
     put_var_uint_in(out, at, var_uint_size(n) - 1, n);
 }
 
-// Puts the descriptor of the type of `byte`, and the length field of `n` bytes.
+// Puts the descriptor of the type of `byte`, and the length field of `n` bytes. By the byte's halves: a descriptor would be made with its kind.
 #[tactic(auto, using(crate::proofs::Stores::sets_out, crate::proofs::Stores::short_stored, crate::proofs::Stores::long_stored))]
 pub fn put_head(out: &mut [u8], at: usize, byte: u8, n: usize)
     ensures { out.new ≡ sets out.old at (head_bytes (byte / 16) n) }

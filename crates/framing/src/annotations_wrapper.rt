@@ -15,7 +15,7 @@ use numbers::binary_buffer::read_var_uint;
 use numbers::refusal::{Reason, Refusal};
 use numbers::var_uint::VarUInt;
 
-// Tests the wrapper at `at` by its combined length and its annotations' length.
+// Tests the wrapper at `at` by its combined length and its annotations' length. By numbers, and no `Described`: it reads no byte.
 #[inline(always)]
 #[tactic(auto, using(std::proofs::lemmas::Bool::Decides::nat_tests), unfolding(crate::specs::Answers::wrapper_tests))]
 fn check_wrapper(

@@ -182,7 +182,7 @@ pub fn read_value(s: &[u8], at: usize, end: usize, limit: usize) -> Result<Encod
     read_value_at(place, limit)
 }
 
-// Whether a byte begins a value or a null, without a wrapper.
+// Whether a byte begins a value or a null, without a wrapper. By two comparisons, and not by `no_value`: its kind would be made for it.
 #[tactic(auto, using(std::proofs::lemmas::Bool::Decides::nat_tests), unfolding(crate::specs::ShortValue::begins_value, numbers::specs::Descriptor::kind_of))]
 fn begins_value(byte: u8) -> bool
     ensures { result ≡ begins_value byte }
@@ -205,6 +205,7 @@ pub fn bare_value(byte: u8, at: usize, body: usize, end: usize) -> EncodedValue
 }
 
 // The length of the value at `at`, where it has no wrapper and a length field of three bytes at most: its descriptor tells it, or a short VarUInt does.
+// Of a part, and of no `Described`, whose descriptor is made here, once its byte is known to begin a value.
 fn short_length(s: &[u8], at: usize, end: usize) -> Option<Length>
     requires { (at < end) × (end ≤ length s.now) }
     ensures { ShortLengthAt s.now at end result }

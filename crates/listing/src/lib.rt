@@ -51,6 +51,7 @@ impl Line {
         value: EncodedValue,
     ) -> fmt::Result {
         let depth = self.depth;
+        // By the byte's halves, as in `values`: a descriptor would be made with its kind for each test.
         let name = type_name(value.byte / 16);
         write!(
             f,

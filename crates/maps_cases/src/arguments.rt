@@ -5,7 +5,7 @@ use questions::hexadecimal;
 use questions::words::{ANNOTATION_LIMIT, DEPTH_LIMIT, Words};
 use std::alloc::AllocError;
 
-// What the lent system text is where a line says none: the nine texts. A copy of its own: a test takes nothing from what it tests.
+// What the lent system text is where a line says none: the nine texts. A copy, so that a change there is seen here.
 const SYSTEM_TEXT: &[u8] =
     b"$ion$ion_1_0$ion_symbol_tablenameversionimportssymbolsmax_id$ion_shared_symbol_table";
 

@@ -12,7 +12,7 @@ pub fn annotation(map: &[u8], words: &mut Words) -> Said {
     })
 }
 
-// Of the value at a position.
+// Of the value at a position. What is called is handed on as it is: `lend` would take a closure around it.
 pub fn of_value<F>(map: &[u8], words: &mut Words, read: F) -> Said
 where
     F: FnOnce(&[u8], usize, usize, usize, usize, &mut [u8]) -> u64 + Drop,
@@ -40,7 +40,7 @@ pub fn decimal(map: &[u8], words: &mut Words) -> Said {
     lend(words, |out, _| Ok(ion_map_decimal(map, start, end, out)))
 }
 
-// Of a whole map.
+// Of a whole map; as above.
 pub fn of_map<F>(map: &[u8], words: &mut Words, read: F) -> Said
 where
     F: FnOnce(&[u8], usize, usize, &mut [u8]) -> u64 + Drop,

@@ -15,7 +15,7 @@ pub fn pack(map: &[u8], words: &mut Words) -> Said {
     })
 }
 
-// What one number says.
+// What one number says. What is called is handed on as it is: `lend_both` would take a closure around it.
 pub fn of_number<N, F>(words: &mut Words, write: F) -> Said
 where
     N: FromStr + Default + Drop,

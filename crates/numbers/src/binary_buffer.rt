@@ -32,7 +32,7 @@ fn past_limit(s: &[u8], from: usize, at: usize, end: usize, cut: Reason) -> Refu
     requires { (from + most_bytes ≤ at) × (at ≤ end) × (end ≤ length s.now) }
     ensures { (v : ℕ) → refusal_read result ≡ groups (number_of cut) v s.now from at end }
 {
-    // By positions, as the invariant has the last byte's.
+    // By positions, as the invariant has the last byte's: over the bytes it would speak of a part of the slice and its length.
     for i in at..end {
         if 128 <= s[i] {
             return Refusal {

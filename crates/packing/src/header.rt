@@ -24,6 +24,7 @@ enum Kind {
     Coded,
 }
 
+// By the byte's halves, as in `values`: a descriptor would be made with its kind for each test.
 impl From<u8> for Kind {
     ghost from_gives = { λ byte kind. kind ≡ kind_of byte };
 

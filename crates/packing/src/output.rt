@@ -6,6 +6,7 @@ ghost use Rattle.packing.specs.Private.Puts.{HasRoom, Puts};
 
 use encoding::put::{head_size, put_bytes, put_head, put_var_uint, var_uint_size};
 
+// That there is room is no ghost field: each function asks for the room of its own bytes, and what is left changes as they are put.
 #[derive(Drop)]
 pub(crate) struct Output<'a> {
     pub(crate) out: &'a mut [u8],

@@ -36,6 +36,7 @@ fn is_expected(expected: &str, word: &str) -> bool {
 }
 
 // Whether an answer is the one expected, word for word. A mark `!` behind the one expected is no part of it.
+// The second one's words by hand: `zip` would stop at the shorter, and not say whether words are left.
 fn agrees(expected: &str, answer: &str) -> bool {
     let mut words = answer.split(' ');
     for wanted in expected.strip_suffix(" !").unwrap_or(expected).split(' ') {

@@ -4,7 +4,7 @@ use std::alloc::{AllocError, Global};
 use std::str::{FromStr, Split};
 
 // The limits where a question says none: the most bytes that a value's annotations may have, and the depth at which a container is not entered.
-// Copies of their own, as `listing` has them: a test takes nothing from what it tests.
+// Copies, as `listing` has them, so that a change there is seen here.
 pub const ANNOTATION_LIMIT: usize = 255;
 
 pub const DEPTH_LIMIT: usize = 32;

@@ -72,7 +72,7 @@ pub fn moved<'a>(r: Reader<'a>, at: usize) -> Reader<'a>
     Reader { at, ..r }
 }
 
-// The first item of a part, by a reader: plain parameters, so that its callers need no walk.
+// The first item of a part, by a reader: plain parameters, so that its callers need no reader.
 pub fn first(map: &[u8], at: usize, end: usize, kind: u64, limit: usize) -> Step
     ensures { step_read result ≡ step_through limit map.now at end kind }
 {

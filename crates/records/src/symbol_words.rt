@@ -38,7 +38,7 @@ fn span_words(kind: RecordKind, what: u64, span: Span, id: usize) -> [u64; RECOR
     ]
 }
 
-// The words of an ID's text.
+// The words of an ID's text. The arm of a refusal stands here and below, as in `words.rt`.
 pub fn text_words(id: usize, text: Result<SymbolText, Refusal>) -> [u64; RECORD_WORDS]
     ensures { result ≡ text_words id (text_read text) }
 {

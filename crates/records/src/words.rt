@@ -228,6 +228,7 @@ enum What {
     Container = 10,
 }
 
+// Zeros, and no `None`, as C's record has them.
 pub(crate) const NO_PART: Span = Span { start: 0, end: 0 };
 
 // The words of a reading: what it is, its number and its part.

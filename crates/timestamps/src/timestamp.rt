@@ -1,4 +1,4 @@
-// Timestamps: a body read into its offset, its fields in UTC and its fraction.
+// Timestamps: a body read into its offset, its fields in UTC and its fraction. Each function takes the slice and a part of it, as in `bodies`.
 ghost use Rattle.std.specs.Prelude.{◌≡◌, ◌∷◌, ◌≤◌, ◌^◌, length, leb};
 ghost use Rattle.numbers.specs.Format.{of_digits};
 ghost use Rattle.numbers.specs.Read.{outcome};

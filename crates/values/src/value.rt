@@ -200,6 +200,7 @@ fn read_bool(value: EncodedValue) -> Result<Scalar, Refusal>
 }
 
 // A positive int, and below a negative one: two functions, as the document has two types, of which only the second has a reading that is refused.
+// No methods of `Placed`, as `read_string` below: they ask nothing of where the value lies.
 #[tactic(auto, using(crate::proofs::Tests::tests), unfolding(crate::specs::Scalars::positive_of))]
 fn read_positive(s: &[u8], value: EncodedValue) -> Scalar
     ensures { gives (scalar_told result) ≡ positive_of s.now (spans_of value) }
@@ -418,7 +419,7 @@ pub fn read_timestamp(
     Placed::at(s, start, end, at, limit)?.timestamp()
 }
 
-// The span of a reading's part, which is empty where it has none or is refused.
+// The span of a reading's part, which is empty where it has none or is refused: zeros, and no `None`, as the definition has them.
 fn span_of(scalar: Result<Scalar, Refusal>) -> Span
     ensures { result ≡ span_of (scalar_read scalar) }
 {

@@ -39,7 +39,7 @@ impl From<AllocError> for Failure {
 
 pub type Answer = Result<String, Failure>;
 
-// A refusal in words. `listing` has the same in its lines: a test takes nothing from what it tests.
+// A refusal in words, as `listing` has it in its lines: a copy, so that a change there is seen here.
 #[derive(Clone, Copy)]
 pub struct Refused(pub Refusal);
 
@@ -49,7 +49,7 @@ impl fmt::Display for Refused {
     }
 }
 
-// The word for a sign.
+// The word for a sign: with `int_type` of writing, which gives a code, it shares an `if` alone.
 pub fn sign(negative: bool) -> &'static str {
     if negative { "negative" } else { "positive" }
 }

@@ -3,8 +3,8 @@ use crate::answering::{Answer, Part};
 use checking::check::check_map;
 use questions::words::{ANNOTATION_LIMIT, DEPTH_LIMIT, Words};
 
-// Where the counts of a checked map have that of its markers, and from where on those of its types. Numbers of its own: a test takes nothing from what it
-// tests.
+// Where the counts of a checked map have that of its markers, and from where on those of its types. Numbers of its own: checking
+// keeps its names for them to itself.
 const MARKERS: usize = 0;
 
 const TYPES: usize = 2;

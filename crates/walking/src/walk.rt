@@ -128,7 +128,7 @@ fn rules_at(depth: usize, fields: bool) -> Rules
     }
 }
 
-// Short for what many exits give.
+// Short for what many exits give; what numbers calls `OUTSIDE` too, since a depth stands beside it here.
 fn refused(depth: usize, reason: Reason, position: usize) -> Seen
     ensures { seen_read result ≡ visit depth (refuses (number_of reason) position) }
 {
@@ -213,6 +213,7 @@ impl Walk {
         ensures { seen_read result ≡ seek limit s.now self.now self.now.depth self.now.at }
     {
         let mut at = self.at;
+        // By depths: what is answered tells the depth.
         for depth in (1..=self.depth).rev() {
             let part = self.parts[depth];
             let step = item_at(rules_at(depth, part.fields), s, at, part.end, limit);
