@@ -1,1 +1,1 @@
-pub mod PackedNumbers
+pub mod Returned

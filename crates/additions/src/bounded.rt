@@ -1,4 +1,5 @@
-// The exported bounded step: it comes back behind a largest number of pads. Its parameters, a kind as a number among them, and the number returned are C's.
+// The exported bounded step: it comes back behind a largest number of pads. Its parameters, a kind as a number among them, and the number returned are C's,
+// and are handed on as they came.
 ghost use Rattle.std.specs.Prelude.{◌≡◌};
 ghost use Rattle.counting.specs.Read.{bounded_read};
 ghost use Rattle.records.specs.Buffer.{record_in, returned_by};
@@ -6,11 +7,12 @@ ghost use Rattle.additions.specs.Exported.{exported_bounded, bounded_words};
 
 use counting::counted::{Bounded, bounded_at};
 use framing::limits::out_of_range;
+use numbers::refusal::{LIMIT_OUT_OF_RANGE, OUTSIDE};
 use records::buffer::{RECORD_WORDS, put_record};
-use records::words::{LIMIT_OUT_OF_RANGE, OUTSIDE, item_words, more_words, refused_words};
+use records::words::{item_words, more_words, refused_words};
 use stepping::cursor::Rules;
 
-// The words of a bounded step's answer.
+// The words of a bounded step's answer. The arm of a refusal stands here too, as in the words of `records`.
 fn bounded_words(answer: Bounded) -> [u64; RECORD_WORDS]
     ensures { result ≡ bounded_words (bounded_read answer) }
 {

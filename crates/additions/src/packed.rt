@@ -1,6 +1,7 @@
 // The exported functions on packed maps.
 //
-// `limit` is the most bytes that a value's annotations may have, `deepest` the depth at which a container is too deep.
+// `limit` is the most bytes that a value's annotations may have, `deepest` the depth at which a container is too deep. The parameters, and the numbers
+// returned, are C's.
 ghost use Rattle.std.specs.Prelude.{◌≡◌, length};
 ghost use Rattle.records.specs.Buffer.{record_in, returned};
 ghost use Rattle.packing.specs.Answers.{size_of, pack_of};
@@ -14,6 +15,7 @@ use records::kind::RecordKind;
 use records::words::bytes_words;
 
 // How many bytes a map has once it is packed.
+#[tactic(auto, using(crate::proofs::Returned::bytes_returned))]
 pub fn ion_map_packed_size(map: &[u8], limit: usize, deepest: usize, out: &mut [u8]) -> u64
     ensures value { result ≡ returned out.old (size_of limit deepest map.now) }
     ensures out_after { out.new ≡ record_in (size_words (size_of limit deepest map.now)) out.old }
@@ -24,7 +26,9 @@ pub fn ion_map_packed_size(map: &[u8], limit: usize, deepest: usize, out: &mut [
     )
 }
 
-// Packs a map into the buffer `packed`.
+// Packs a map into the buffer `packed`. Where `out` has no room for the record, nothing is written: the test stands here as it does where values are written,
+// since one function for both would be public in `records`, and ask its callers that their closure can be called.
+#[tactic(auto, using(crate::proofs::Returned::bytes_returned, std::proofs::lemmas::Bool::Decides::nat_tests), unfolding(records::specs::Buffer::answered, records::specs::Buffer::words_in, crate::specs::Packed::packed_in))]
 pub fn ion_map_pack(
     map: &[u8],
     limit: usize,

@@ -1,7 +1,8 @@
 // The exported readings that the change requests added: of a decimal, of a timestamp, of the field IDs that a step begins to read, and the check of a whole
 // map.
 //
-// `limit` is the most bytes that a value's annotations may have, `deepest` the depth at which a container is too deep.
+// `limit` is the most bytes that a value's annotations may have, `deepest` the depth at which a container is too deep. The parameters, and the numbers
+// returned, are C's.
 ghost use Rattle.std.specs.Prelude.{◌≡◌};
 ghost use Rattle.bodies.specs.Decimal.{decimal};
 ghost use Rattle.values.specs.Timestamps.{read_timestamp};
@@ -29,10 +30,12 @@ pub fn ion_map_ids(map: &[u8], start: usize, end: usize, position: usize, limit:
     if position < start {
         return 0;
     }
+    // `as`: std has no `From` of a `usize` for a `u64`.
     ids_begun(map, position, end, limit) as u64
 }
 
 // Splits the decimal whose body is start..end.
+#[tactic(auto, using(crate::proofs::Returned::decimal_returned))]
 pub fn ion_map_decimal(map: &[u8], start: usize, end: usize, out: &mut [u8]) -> u64
     ensures value { result ≡ returned out.old (decimal map.now start end) }
     ensures out_after { out.new ≡ record_in (decimal_words start (decimal map.now start end)) out.old }
@@ -41,6 +44,7 @@ pub fn ion_map_decimal(map: &[u8], start: usize, end: usize, out: &mut [u8]) -> 
 }
 
 // Reads the value at `position` of the part start..end, and what it says where it is a timestamp.
+#[tactic(auto, using(crate::proofs::Returned::timestamp_returned))]
 pub fn ion_map_timestamp(
     map: &[u8],
     start: usize,
@@ -58,7 +62,7 @@ pub fn ion_map_timestamp(
     )
 }
 
-// The words of a check's answer.
+// The words of a check's answer. The arm of a refusal stands here too, as in the words of `records`.
 fn check_words(checked: Result<Counts, Refusal>) -> [u64; CHECK_WORDS]
     ensures { result ≡ check_words (checked_read checked).outcome }
 {
@@ -69,6 +73,7 @@ fn check_words(checked: Result<Counts, Refusal>) -> [u64; CHECK_WORDS]
 }
 
 // Checks the whole map: every value's places, annotations and scalar, at every depth. Its record of sixteen words has the counts of what the map holds.
+#[tactic(auto, using(crate::proofs::Returned::check_answered))]
 pub fn ion_map_check(map: &[u8], limit: usize, deepest: usize, out: &mut [u8]) -> u64
     ensures value { result ≡ check_returned out.old (whole_check limit deepest map.now) }
     ensures out_after { out.new ≡ check_in (check_words (whole_check limit deepest map.now)) out.old }

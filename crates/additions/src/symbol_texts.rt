@@ -1,7 +1,7 @@
 // The exported functions on symbols: the text of an ID at a place, and in two stages the list of the table that rules there and an ID's text under it.
 //
 // A place is where an item of the stream start..end begins, or its end. `system` is the nine texts of the system, joined. `limit` is the most bytes that a
-// value's annotations may have. Each function puts its record at the start of `out` and returns 0 or the refusal's number.
+// value's annotations may have. Each function puts its record at the start of `out` and returns 0 or the refusal's number. The parameters are C's.
 ghost use Rattle.std.specs.Prelude.{◌≡◌};
 ghost use Rattle.symbols.specs.Text.{symbols_at, text_of, list_text};
 ghost use Rattle.records.specs.Buffer.{record_in, returned};
@@ -12,6 +12,7 @@ use records::symbol_words::{symbols_words, text_words};
 use symbols::symbols::{symbol_text, symbols_at, text_of};
 
 // The text of an ID at a place.
+#[tactic(auto, using(crate::proofs::Returned::text_returned))]
 pub fn ion_map_text(
     map: &[u8],
     system: &[u8],
@@ -32,6 +33,7 @@ pub fn ion_map_text(
 }
 
 // The list of the table that rules at a place.
+#[tactic(auto, using(crate::proofs::Returned::symbols_returned))]
 pub fn ion_map_symbols(
     map: &[u8],
     system: &[u8],
@@ -51,6 +53,7 @@ pub fn ion_map_symbols(
 }
 
 // The text of an ID under the table whose list has the body start..end, which is empty where no list rules.
+#[tactic(auto, using(crate::proofs::Returned::text_returned))]
 pub fn ion_map_symbol_text(
     map: &[u8],
     system: &[u8],

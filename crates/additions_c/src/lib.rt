@@ -1,4 +1,4 @@
-// The functions that the change requests added, as other languages call them: those of the crate `additions`, each under its clauses.
+// The functions that the change requests added, as other languages call them: those of the crate `additions`, each under its clauses. The parameters are C's.
 #![tactic(auto)]
 
 ghost use Rattle.std.specs.Prelude.{◌≡◌, length};

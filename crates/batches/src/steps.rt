@@ -13,15 +13,15 @@ use records::words::refused_words;
 use std::ops::ControlFlow;
 use stepping::cursor::Rules;
 
-// How many records were put, and the number of the last answer.
+// How many records were put, and the number of the last answer. Both are returned to C: the count is no flag.
 #[derive(Clone, Copy)]
 struct Steps {
     count: usize,
     number: u64,
 }
 
-// Puts the records of steps from `position` on, as many as there is room for. Over the parts of the buffer the loop would be no plainer: they are counted
-// anyway, since how many were put is returned.
+// Puts the records of steps from `position` on, as many as there is room for. Not over `chunks_exact_mut`: the library does not say what a buffer holds once
+// the parts that it lends were written.
 fn put_steps(
     rules: Rules,
     map: &[u8],
@@ -58,7 +58,9 @@ fn put_steps(
     }
 }
 
-// As many steps as `out` has room for, one record after the other, up to an end or a refusal. `count` is how many records were put.
+// As many steps as `out` has room for, one record after the other, up to an end or a refusal. `count` is how many records were put. Whether there is room for
+// one is tested here first, since the count is 0 then.
+#[tactic(auto, using(std::proofs::lemmas::Bool::Decides::nat_tests), unfolding(crate::specs::Steps::returned_last, crate::specs::Steps::records_in, crate::specs::Steps::count_in))]
 pub fn ion_map_steps(
     map: &[u8],
     start: usize,
@@ -80,6 +82,7 @@ pub fn ion_map_steps(
     match part_rules(map, start, end, position, kind, limit) {
         Ok(rules) => {
             let steps = put_steps(rules, map, position, end, limit, out);
+            // `as`: std has no `From` of a `usize` for a `u64`.
             *count = steps.count as u64;
             steps.number
         }

@@ -1,4 +1,4 @@
-// Many steps in a call, `ion_map_steps`, as other languages call them: the function of the crate `batches`, under its clauses.
+// Many steps in a call, `ion_map_steps`, as other languages call them: the function of the crate `batches`, under its clauses. The parameters are C's.
 #![tactic(auto)]
 
 ghost use Rattle.std.specs.Prelude.{◌≡◌};

@@ -17,19 +17,19 @@ use Rattle.bodies.specs.Private.Sequence.{tails_of, low_of, high_of, wanted}
 use Rattle.bodies.proofs.Rows.{both_first, both_second, by_less, goes_ascii, goes_lead, in-range, goes_in}
 
 -- the encoding by its length
-encode_one : (c : ℕ) → c < 128 → encode c ≡ c ∷ []
+pub encode_one : (c : ℕ) → c < 128 → encode c ≡ c ∷ []
 unfolding encode
 encode_one c h = rw (le-leb c 0x7F (omega arith))
 
-encode_two : (c : ℕ) → 0x80 ≤ c → c ≤ 0x7FF → encode c ≡ (0xC0 + c / 0x40) ∷ (0x80 + c % 0x40) ∷ []
+pub encode_two : (c : ℕ) → 0x80 ≤ c → c ≤ 0x7FF → encode c ≡ (0xC0 + c / 0x40) ∷ (0x80 + c % 0x40) ∷ []
 unfolding encode
 encode_two c h k = rw (lt-leb c 0x7F (omega arith), le-leb c 0x7FF k)
 
-encode_three : (c : ℕ) → 0x800 ≤ c → c ≤ 0xFFFF → encode c ≡ (0xE0 + c / 0x1000) ∷ (0x80 + c / 0x40 % 0x40) ∷ (0x80 + c % 0x40) ∷ []
+pub encode_three : (c : ℕ) → 0x800 ≤ c → c ≤ 0xFFFF → encode c ≡ (0xE0 + c / 0x1000) ∷ (0x80 + c / 0x40 % 0x40) ∷ (0x80 + c % 0x40) ∷ []
 unfolding encode
 encode_three c h k = rw (lt-leb c 0x7F (omega arith), lt-leb c 0x7FF (omega arith), le-leb c 0xFFFF k)
 
-encode_four : (c : ℕ) → 0x10000 ≤ c → encode c ≡ (0xF0 + c / 0x40000) ∷ (0x80 + c / 0x1000 % 0x40) ∷ (0x80 + c / 0x40 % 0x40) ∷ (0x80 + c % 0x40) ∷ []
+pub encode_four : (c : ℕ) → 0x10000 ≤ c → encode c ≡ (0xF0 + c / 0x40000) ∷ (0x80 + c / 0x1000 % 0x40) ∷ (0x80 + c / 0x40 % 0x40) ∷ (0x80 + c % 0x40) ∷ []
 unfolding encode
 encode_four c h = rw (lt-leb c 0x7F (omega arith), lt-leb c 0x7FF (omega arith), lt-leb c 0xFFFF (omega arith))
 

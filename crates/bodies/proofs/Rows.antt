@@ -1,23 +1,22 @@
--- What a lead byte wants, by three numbers: tested against the table's rows at each byte by one computation. And how the ranges still wanted go on byte by byte.
+-- What a lead byte wants, by three numbers: tested against the table's rows at each byte by one computation.
 -- Assumes nothing.
-use Prim.Native.Nat.{ℕ, zero, suc, ◌+◌, ◌-◌, ◌≤◌, ◌<◌}
+use Prim.Native.Nat.{ℕ, zero, suc, ◌-◌, ◌≤◌, ◌<◌}
 use native.Mathlib.Omega.{arith}
 use native.Mathlib.Nat.{eq-or-lt_of_le, le_of_suc-le-suc}
-use mathlib.Core.Path.{◌≡◌, refl, ◌∙◌, sym, ap, ap₂}
-use mathlib.Core.Logic.{◌⊎◌, inl, inr, ⊎_elim}
+use mathlib.Core.Path.{◌≡◌, refl, sym, ap, ap₂}
+use mathlib.Core.Logic.{⊎_elim}
 use mathlib.Core.Bool.{Bool, true, false, true≢false}
 use mathlib.Core.Option.{Option, none, some}
 use mathlib.Core.List.{List, [], ◌∷◌}
-use lib.ListN.{length, get_or, take, drop, replicate, length-replicate}
-use lib.Seq.{get_or-take, get_or-drop}
-use lib.Dec.{leb, ltb, eqb}
+use lib.ListN.{length, take, drop}
+use lib.Dec.{ltb, eqb}
 use borrow.Author.Tests.{le-leb, lt-leb, le-ltb, ltb-false, ltb-true, eqb-true}
 use Rattle.numbers.specs.Outcome.{pick, outside_of}
-use Rattle.numbers.specs.Bytes.{part, Same}
-use Rattle.numbers.proofs.Outcomes.{by_test, pick_same, inside, inside_end}
-use Rattle.numbers.proofs.Parts.{part_cons, part_none, part_length, part_same}
+use Rattle.numbers.specs.Bytes.{Same}
+use Rattle.numbers.proofs.Outcomes.{by_test, pick_same, inside_order, inside_end}
+use Rattle.numbers.proofs.Parts.{part_taken, part_same}
 use Rattle.numbers.proofs.Locality.{outside_local}
-use Rattle.bodies.specs.Utf8.{Range, range, in_range, tail, table, row_of, if_some, goes_on, well_formed, utf8}
+use Rattle.bodies.specs.Utf8.{Range, range, in_range, table, row_of, if_some, goes_on, well_formed, utf8}
 use Rattle.bodies.specs.Private.Sequence.{tails_of, low_of, high_of, wanted}
 
 -- both of two tests
@@ -114,7 +113,7 @@ goes_lead b bs h = rw (row-of b h) (picked (eqb (tails_of b) 0) (wanted (tails_o
     picked true rs = refl
     picked false rs = refl
 
--- a byte that is wanted, and one that is not
+-- a byte that is wanted
 pub in-range : (low high b : ℕ) → low ≤ b → b ≤ high → in_range (range low high) b ≡ true
 in-range low high b h k = rw (le-leb b high k, le-leb low b h)
 
@@ -122,87 +121,14 @@ pub goes_in : (b : ℕ) (bs : List ℕ) (r : Range) (rs : List Range) → in_ran
 unfolding goes_on
 goes_in b bs r rs h = rw h
 
-goes_out : (b : ℕ) (bs : List ℕ) (r : Range) (rs : List Range) → in_range r b ≡ false → goes_on (b ∷ bs) (r ∷ rs) ≡ false
-unfolding goes_on
-goes_out b bs r rs h = rw h
-
--- after the first of the wanted bytes the others are of one range
-pub tails_wanted : (n : ℕ) → replicate n tail ≡ wanted n 0x80 0xBF
-tails_wanted zero = refl
-tails_wanted (suc n) = refl
-
-module _ (s : List ℕ) (i end : ℕ) (h : i < end) (k : end ≤ length s) where
-  pub wanted_in : (left low high : ℕ) → 0 < left → low ≤ get_or s i 0 → get_or s i 0 ≤ high → goes_on (part s i end) (wanted left low high) ≡ goes_on (part s (i + 1) end) (wanted (left - 1) 0x80 0xBF)
-  wanted_in zero low high p a b = absurd (omega arith)
-  wanted_in (suc n) low high p a b =
-      let e : suc n - 1 ≡ n = omega arith in
-      rw (part_cons s i end h k, e, ← tails_wanted n)
-      (goes_in (get_or s i 0) (part s (i + 1) end) (range low high) (replicate n tail) (in-range low high (get_or s i 0) a b))
-
-  wanted_not : (left low high : ℕ) → 0 < left → in_range (range low high) (get_or s i 0) ≡ false → goes_on (part s i end) (wanted left low high) ≡ false
-  wanted_not zero low high p a = absurd (omega arith)
-  wanted_not (suc n) low high p a =
-      rw (part_cons s i end h k) (goes_out (get_or s i 0) (part s (i + 1) end) (range low high) (replicate n tail) a)
-
-  pub wanted_below : (left low high : ℕ) → 0 < left → get_or s i 0 < low → goes_on (part s i end) (wanted left low high) ≡ false
-  wanted_below left low high p a =
-      wanted_not left low high p (by_test (λ t. t ≡ false) (leb (get_or s i 0) high) (λ _. lt-leb low (get_or s i 0) a) (λ _. refl))
-
-  pub wanted_above : (left low high : ℕ) → 0 < left → high < get_or s i 0 → goes_on (part s i end) (wanted left low high) ≡ false
-  wanted_above left low high p a = wanted_not left low high p (rw (lt-leb (get_or s i 0) high a))
-
-  -- a byte below 80 in a slice, and another
-  pub part_ascii : get_or s i 0 < 128 → well_formed (part s i end) ≡ well_formed (part s (i + 1) end)
-  part_ascii b = rw (part_cons s i end h k) (goes_ascii (get_or s i 0) (part s (i + 1) end) b)
-
-  pub part_lead : 128 ≤ get_or s i 0 → well_formed (part s i end) ≡ pick (eqb (tails_of (get_or s i 0)) 0) false (goes_on (part s (i + 1) end) (wanted (tails_of (get_or s i 0)) (low_of (get_or s i 0)) (high_of (get_or s i 0))))
-  part_lead b = rw (part_cons s i end h k) (goes_lead (get_or s i 0) (part s (i + 1) end) b)
-
--- fewer bytes than are wanted
-goes_short : (bs : List ℕ) (rs : List Range) → length bs < length rs → goes_on bs rs ≡ false
-unfolding goes_on
-goes_short [] [] h = absurd (omega arith)
-goes_short [] (r ∷ rs) h = refl
-goes_short (b ∷ bs) [] h = absurd (omega arith)
-goes_short (b ∷ bs) (r ∷ rs) h =
-    by_test (λ t. t ≡ false) (in_range r b) (λ _. goes_short bs rs (omega arith)) (λ _. refl)
-
-wanted_length : (n low high : ℕ) → length (wanted n low high) ≡ n
-wanted_length zero low high = refl
-wanted_length (suc n) low high = ap suc (length-replicate n tail)
-
-pub wanted_short : (s : List ℕ) (at end left low high : ℕ) → at ≤ end → end ≤ length s → end < at + left → goes_on (part s at end) (wanted left low high) ≡ false
-wanted_short s at end left low high o k h =
-    goes_short (part s at end) (wanted left low high) (omega (arith, part_length s at end k, wanted_length left low high))
-
--- the same of the i-th of `count` bytes from `from` on, as the machine takes them
-module _ (s : List ℕ) (from end count : ℕ) (k : from + count ≤ end) (l : end ≤ length s) where
-  taken_at : (i : ℕ) → i < count → get_or (take (from + count - from) (drop from s)) i 0 ≡ get_or s (from + i) 0
-  taken_at i h = get_or-take (from + count - from) (drop from s) i 0 (omega arith) ∙ get_or-drop from s i 0
-
-  pub wanted_step : (i low high : ℕ) → i < count → let b = get_or (take (from + count - from) (drop from s)) i 0 in low ≤ b → b ≤ high → goes_on (part s (from + i) end) (wanted (count - i) low high) ≡ goes_on (part s (from + (i + 1)) end) (wanted (count - (i + 1)) 0x80 0xBF)
-  wanted_step i low high h a b =
-      let e : from + (i + 1) ≡ from + i + 1 = omega arith in
-      let q : count - (i + 1) ≡ count - i - 1 = omega arith in
-      rw (e, q)
-      (wanted_in s (from + i) end (omega arith) l (count - i) low high (omega arith) (omega (arith, taken_at i h)) (omega (arith, taken_at i h)))
-
-  pub wanted_stop : (i low high : ℕ) → i < count → let b = get_or (take (from + count - from) (drop from s)) i 0 in (b < low) ⊎ (high < b) → goes_on (part s (from + i) end) (wanted (count - i) low high) ≡ false
-  wanted_stop i low high h (inl a) = wanted_below s (from + i) end (omega arith) l (count - i) low high (omega arith) (omega (arith, taken_at i h))
-  wanted_stop i low high h (inr a) = wanted_above s (from + i) end (omega arith) l (count - i) low high (omega arith) (omega (arith, taken_at i h))
-
--- nothing more is well-formed
-pub ends_well : (s : List ℕ) (end : ℕ) → well_formed (part s end end) ≡ true
-unfolding goes_on
-ends_well s end = rw (part_none s end)
-
 pub utf8_out : (s : List ℕ) (at end : ℕ) → outside_of s at end ≡ true → utf8 s at end ≡ false
 unfolding utf8
 utf8_out s at end o = rw o
 
-pub utf8_inside : (s : List ℕ) (at end : ℕ) → at ≤ end → end ≤ length s → utf8 s at end ≡ well_formed (part s at end)
+-- the bytes there as the machine takes them
+pub utf8_inside : (s : List ℕ) (at end : ℕ) → outside_of s at end ≡ false → utf8 s at end ≡ well_formed (take (end - at) (drop at s))
 unfolding utf8
-utf8_inside s at end h k = rw (inside s at end h k)
+utf8_inside s at end o = rw (o, part_taken s at end (inside_order s at end o) (inside_end s at end o))
 
 -- two slices of one length with the same bytes there have the same answer
 pub utf8_local : (s t : List ℕ) (at end : ℕ) → length s ≡ length t → Same s t at end → utf8 s at end ≡ utf8 t at end

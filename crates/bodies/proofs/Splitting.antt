@@ -13,11 +13,14 @@ use borrow.Author.Tests.{eq-eqb, ne_eqb, eqb-true, eqb-false, ltb-false}
 use Rattle.numbers.specs.Format.{NumberAt, var_int_negative, var_int_magnitude}
 use Rattle.numbers.specs.Outcome.{Outcome, gives, and_then, outside_of}
 use Rattle.numbers.specs.Bytes.{part}
-use Rattle.numbers.specs.Answers.{Signed, signed, int}
+use Rattle.numbers.specs.Answers.{Signed, signed, var_int, int}
 use Rattle.numbers.specs.Meaning.{NumberMeaning, reads, outside as number-outside, cut_short as number_cut, too_long as number-long, IntMeaning}
 use Rattle.numbers.proofs.Outcomes.{by_test, by_case, by_refusal, inside, inside_end, outside_cases, within_part}
 use Rattle.numbers.proofs.Meaning.{var-int-sound, var-int-complete, var_int_at, var_int_small, ints-sound, ints-complete}
 use Rattle.numbers.proofs.Moving.{Moved, given_on, refused_on, moved_then, moved_pick, same_moved, moved_signed, var_int_moved, int_moved}
+use Rattle.numbers.specs.declared.var_int.VarInt.{VarInt}
+use Rattle.bodies.specs.declared.decimal.Decimal.{Decimal}
+use Rattle.bodies.specs.Decimal.{split_read}
 use Rattle.bodies.specs.Decimal.{Split, exponent_sign, split_as, with_coefficient, zero_at, decimal, integer, var_int_of, Worth}
 use Rattle.bodies.specs.Decimal.{DecimalMeaning, empty, split, outside, cut_short, too_long, DecimalsSound, DecimalsComplete, EmptyDecimals}
 use Rattle.bodies.specs.Decimal.{DecimalsLocal, moved_split, moved_decimal, DecimalsMoved}
@@ -154,3 +157,18 @@ rest_meant (too_long n h) q = absurd (let z : ◌≡◌ {A = ℕ} 0 1 = cc in om
 
 pub rest_within : (s : List ℕ) (start end : ℕ) (d : Split) → decimal s start end ≡ gives d → RestWithin s d
 rest_within s start end d e = rest_meant (decimals-sound s start end) e
+
+-- as the tactics are to have it, of what was read; and where an exponent ends
+module _ (s : List ℕ) (start end : ℕ) where
+  pub rest_order : (d : Decimal) → decimal s start end ≡ gives (split_read d) → d.coefficient.rest ≤ d.coefficient.end
+  rest_order d e = (rest_within s start end _ e).order
+
+  pub rest_ends : (d : Decimal) → decimal s start end ≡ gives (split_read d) → d.coefficient.end ≤ length s
+  rest_ends d e = (rest_within s start end _ e).within
+
+  pub exponent_ends : (n : VarInt) → var_int s start end ≡ gives (record { negative = n.negative; magnitude = n.magnitude; next = n.next }) → n.next ≤ end
+  exponent_ends n e = let r = var_int_at s start end e in omega (arith, ap (λ (x : Signed). x.next) r.is, r.number.ends)
+
+pub ruleset split_rest = (rest_order, rest_ends)
+
+pub ruleset split_tests = (eq-eqb, ne_eqb, exponent_ends)

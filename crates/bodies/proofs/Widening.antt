@@ -3,13 +3,12 @@
 -- Assumes nothing.
 use Prim.Native.Nat.{ℕ, zero, suc, ◌+◌, ◌-◌, ◌*◌, ◌/◌, ◌%◌, ◌^◌, ◌≤◌, ◌<◌}
 use native.Mathlib.Omega.{arith}
-use native.Mathlib.Nat.{zero-add, add-zero, eq-zero-or-pos, add_assoc, le_of_suc-le-suc, mul_assoc, mul_right_comm, mul-div_cancel, mul-le-mul_right, le_antisymm, lt_of_not-le, lt_of_lt_of_le, lt_irrefl, le_trans, mod-eq_of_lt}
+use native.Mathlib.Nat.{zero-add, add-zero, eq-zero-or-pos, add_assoc, le_of_suc-le-suc, mul_assoc, mul_right_comm, mul-div_cancel, mul-le-mul_right, le_antisymm, lt_of_not-le, lt_of_lt_of_le, lt_irrefl, le_trans, mod-eq_of_lt, pow-succ'}
 use mathlib.Core.Path.{◌≡◌, refl, ◌∙◌, sym, ap, subst}
 use mathlib.Core.Logic.{⊎_elim}
 use mathlib.Core.Bool.{Bool, true, false, true≢false, cond, not}
 use lib.Dec.{T, leb}
 use lib.Pow.{pow-add, pow_pos, pow_mono, shl_lt}
-use lib.Count.{count_leading_zeros, leading_top}
 use lib.Ieee.{Float, nan, inf, fin, Format, binary32, binary64, up, down, size, odd, is_nan, hid, ones, top, of_fields, of_bits, to_bits, nan_bits}
 use lib.Ieee.Digits.{size-lt, size-le}
 use lib.Ieee.Exact.{HasValue, odd_sign}
@@ -92,44 +91,27 @@ finite_at q k j l lo hi =
         let e : k + 925 ≡ 52 - j + (873 + j + k) = omega arith in
         joined ∙ ap (λ (x : ℕ). q * 2 ^ x) e ∙ ap (λ (x : ℕ). q * x) (pow-add 2 (52 - j) (873 + j + k)) ∙ sym (mul_assoc q (2 ^ (52 - j)) (2 ^ (873 + j + k)))
 
--- the place of a number's leading digit, as the code finds it
-abbrev pub place : ℕ → ℕ
-place q = 31 - count_leading_zeros 32 q
+-- the leading digit of a number below 2^23 is at place j
+module _ (q j : ℕ) (h : q < 2 ^ 23) (low : 2 ^ j ≤ q) (high : q < 2 * 2 ^ j) where
+  place_small : j ≤ 22
+  place_small = le_of_suc-le-suc (lt_of_not-le (λ (g : 23 ≤ j). lt_irrefl q (lt_of_lt_of_le h (le_trans (pow_mono g) low))))
 
-module _ (q : ℕ) (p : 0 < q) (h : q < 2 ^ 23) where
-  top_digit : (j : ℕ) × (count_leading_zeros 32 q + suc j ≡ 32) × (2 ^ j ≤ q) × (q < 2 ^ suc j)
-  top_digit = leading_top 32 q p (omega arith)
-
-  pub leading_small : count_leading_zeros 32 q ≤ 31
-  leading_small = omega (arith, top_digit.1)
-
-  at_place : place q ≡ top_digit.0
-  at_place = omega (arith, top_digit.1)
-
-  place_low : 2 ^ place q ≤ q
-  place_low = rw at_place top_digit.2
-
-  place_high : q < 2 ^ suc (place q)
-  place_high = rw at_place top_digit.3
-
-  place_small : place q ≤ 22
-  place_small =
-      le_of_suc-le-suc (lt_of_not-le (λ (g : 23 ≤ place q). lt_irrefl q (lt_of_lt_of_le h (le_trans (pow_mono g) place_low))))
+  place_high : q < 2 ^ suc j
+  place_high = rw (pow-succ' 2 j) high
 
   -- the digits shifted to the exponent's field, their leading one in it
-  digits_small : q * 2 ^ (52 - place q) < 2 ^ 53
+  digits_small : q * 2 ^ (52 - j) < 2 ^ 53
   digits_small =
-      let e : suc (place q) + (52 - place q) ≡ 53 = omega (arith, place_small) in
-      subst (λ (n : ℕ). q * 2 ^ (52 - place q) < 2 ^ n) e (shl_lt (suc (place q)) (52 - place q) place_high)
+      let e : suc j + (52 - j) ≡ 53 = omega (arith, place_small) in
+      subst (λ (n : ℕ). q * 2 ^ (52 - j) < 2 ^ n) e (shl_lt (suc j) (52 - j) place_high)
 
-  shifted_kept : q * 2 ^ (52 - place q) % 2 ^ 64 ≡ q * 2 ^ (52 - place q)
+  shifted_kept : q * 2 ^ (52 - j) % 2 ^ 64 ≡ q * 2 ^ (52 - j)
   shifted_kept = mod-eq_of_lt (lt_of_lt_of_le digits_small (pow_mono {i = 53} {j = 64} (omega arith)))
 
-  pub finite_place : finite_of q 0 ≡ (873 + place q) * hid binary64 + q * 2 ^ (52 - place q) % 2 ^ 64
-  finite_place =
-      finite_at q 0 (place q) (omega (arith, place_small)) place_low place_high ∙ rw (add-zero (873 + place q), shifted_kept)
+  pub finite_place : finite_of q 0 ≡ (873 + j) * hid binary64 + q * 2 ^ (52 - j) % 2 ^ 64
+  finite_place = finite_at q 0 j (omega (arith, place_small)) low place_high ∙ rw (add-zero (873 + j), shifted_kept)
 
-  pub place_fits : (873 + place q) * hid binary64 + q * 2 ^ (52 - place q) % 2 ^ 64 < 2 ^ 63
+  pub place_fits : (873 + j) * hid binary64 + q * 2 ^ (52 - j) % 2 ^ 64 < 2 ^ 63
   place_fits = rw shifted_kept (omega (arith, place_small, digits_small))
 
 -- the kinds of a 32-bit pattern, by its exponent's field

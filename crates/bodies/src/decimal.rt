@@ -4,9 +4,9 @@ ghost use Rattle.bodies.specs.Decimal.{decimal, decimal_rest, decimal_read};
 
 use numbers::binary_buffer;
 use numbers::int::Int;
-use numbers::refusal::{Reason, Refusal};
+use numbers::refusal::{OUTSIDE, Refusal};
 
-// The exponent's sign and magnitude, zero being positive, and the coefficient.
+// The exponent's sign and magnitude, zero being positive, and the coefficient. A sign beside a magnitude, as the definition of an answer has them.
 #[derive(Clone, Copy, Debug, PartialEq, Eq)]
 pub struct Decimal {
     pub exponent_negative: bool,
@@ -15,14 +15,12 @@ pub struct Decimal {
 }
 
 // Splits the decimal whose body is start..end. An empty body is zero with exponent 0.
+#[tactic(auto, using(crate::proofs::Splitting::split_tests), unfolding(crate::specs::Decimal::decimal, crate::specs::Decimal::with_coefficient, crate::specs::Decimal::split_as))]
 pub fn read_decimal(s: &[u8], start: usize, end: usize) -> Result<Decimal, Refusal>
     ensures { decimal_read result ≡ decimal s.now start end }
 {
     if binary_buffer::outside(s, start, end) {
-        return Err(Refusal {
-            reason: Reason::Outside,
-            position: 0,
-        });
+        return Err(OUTSIDE);
     }
     if start == end {
         return Ok(Decimal {
@@ -46,6 +44,7 @@ pub fn read_decimal(s: &[u8], start: usize, end: usize) -> Result<Decimal, Refus
 }
 
 // The coefficient's bytes after its first one, as a part of the slice: empty where `read_decimal` refuses.
+#[tactic(auto, using(crate::proofs::Splitting::split_rest, numbers::proofs::Parts::part_taken), unfolding(crate::specs::Decimal::decimal_rest))]
 pub fn read_decimal_rest(s: &[u8], start: usize, end: usize) -> &[u8]
     ensures { result.now ≡ decimal_rest s.now start end }
 {

@@ -34,7 +34,7 @@ fn special(fraction: u32) -> u64
 
 // A subnormal number or zero, by its fraction: its leading digit, which has a place of its own in the 32-bit format, is
 // the one that the 64-bit format leaves out.
-#[tactic(auto, using(crate::proofs::Widening::finite_zero, crate::proofs::Widening::finite_place, crate::proofs::Widening::place_fits, crate::proofs::Widening::leading_small))]
+#[tactic(auto, using(crate::proofs::Widening::finite_zero, crate::proofs::Widening::finite_place, crate::proofs::Widening::place_fits))]
 fn subnormal(fraction: u32) -> u64
     requires { fraction < 0x80_0000 }
     ensures { result ≡ finite_of fraction 0 }
@@ -42,7 +42,7 @@ fn subnormal(fraction: u32) -> u64
     if fraction == 0 {
         return 0;
     }
-    let place = 31 - fraction.leading_zeros();
+    let place = fraction.ilog2();
     let field = u64::from(873 + place);
     let digits = u64::from(fraction) << (52 - place);
     field * EXPONENT + digits

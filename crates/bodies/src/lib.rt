@@ -1,4 +1,6 @@
 // What is read from a scalar's body by itself: UTF-8, floats, big-endian numbers, magnitudes, decimals.
+//
+// Each takes the slice and a part of it, at..end, and not the part alone: a part that is none has its answer too, and positions are those of the slice.
 #![tactic(auto)]
 
 pub mod decimal;

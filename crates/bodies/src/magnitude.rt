@@ -1,4 +1,4 @@
-// Integer magnitudes.
+// Integer magnitudes, given by the slice and a part of it, and not by the part alone, as `lib.rt` says.
 ghost use Rattle.std.specs.Prelude.{◌≡◌, not, eqb, position};
 ghost use Rattle.bodies.specs.Magnitude.{significant_from};
 

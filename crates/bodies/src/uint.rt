@@ -1,4 +1,5 @@
-// UInts of at most 8 bytes, the most significant first: a symbol's ID, a float's bits.
+// UInts of at most 8 bytes, the most significant first: a symbol's ID, a float's bits. They are given by the slice and a part of it, and not
+// by the part alone, as `lib.rt` says.
 ghost use Rattle.std.specs.Prelude.{◌≡◌, ◌≤◌, length};
 ghost use Rattle.numbers.specs.Format.{uint_of};
 ghost use Rattle.bodies.specs.Uint.{uint_in};

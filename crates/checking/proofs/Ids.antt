@@ -8,7 +8,7 @@ use mathlib.Core.List.{List}
 use lib.ListN.{length}
 use lib.Dec.{eqb}
 use Rattle.numbers.specs.Outcome.{Outcome, gives, and_then}
-use Rattle.numbers.proofs.Outcomes.{Each, given, each_pick, each_within, each_then, then_same, within_part}
+use Rattle.numbers.proofs.Outcomes.{Each, each_of, given, each_pick, each_within, each_then, then_same, within_part}
 use Rattle.numbers.proofs.Meaning.{var_uint_bounded}
 use Rattle.framing.specs.Answers.{Annotated, ident, finished, read_annotation}
 use Rattle.checking.specs.Reading.{Done, done, on_id, ids_from, read_ids}
@@ -56,6 +56,8 @@ pub ids_none : (s : List ℕ) (at end : ℕ) → end ≤ at → read_ids s at en
 unfolding read_ids ids_from
 ids_none s at end l = let e : end - at ≡ 0 = omega arith in rw e
 
--- what the next ID's reading makes of the rest
-pub ids_by : (s : List ℕ) (at end : ℕ) → at < end → {o : Outcome Annotated} → o ≡ read_annotation s at end → and_then o (on_id (λ n. read_ids s n end)) ≡ read_ids s at end
-ids_by s at end l h = ap (λ (o : Outcome Annotated). and_then o (on_id (λ n. read_ids s n end))) h ∙ sym (ids_next s at end l)
+-- less is left behind an ID
+pub id_less : (s : List ℕ) (at end id next : ℕ) → at < end → read_annotation s at end ≡ gives (ident id next) → end - next < end - at
+id_less s at end id next l e = let p = each_of (annotation_each s at end) e in omega (arith, p.0)
+
+pub ruleset ids = (ids_next, ids_none, id_less)

@@ -2,18 +2,21 @@
 -- Assumes nothing.
 use Prim.Native.Nat.{ℕ, ◌+◌, ◌/◌, ◌≤◌, ◌<◌}
 use native.Mathlib.Omega.{arith}
-use mathlib.Core.Path.{◌≡◌, sym, subst}
+use mathlib.Core.Path.{◌≡◌, refl, sym, subst}
 use mathlib.Core.List.{List, [], ◌∷◌}
 use lib.ListN.{length}
 use Rattle.numbers.specs.Outcome.{Outcome, gives, refuses}
 use Rattle.framing.specs.Spans.{Spans}
 use Rattle.framing.specs.Format.{ValueType, typed, null_null, TypedValue, ValueBytes, plain, annotated}
-use Rattle.stepping.specs.Items.{Item, finish, marker, value, field}
+use Rattle.stepping.specs.Items.{Item, finish, marker, value, field, Pad}
+use Rattle.stepping.specs.Read.{places_of}
+use Rattle.stepping.specs.declared.cursor.Item.{Item as ItemEnum}
 use Rattle.stepping.specs.Answers.{Found, found}
-use Rattle.stepping.specs.Format.{ItemAt, marker-at, value_in_stream, value_in_sequence, field-at}
-use Rattle.stepping.specs.Meaning.{Stands, the_end, the_item, refused_there, no_part, no_limit}
+use Rattle.stepping.specs.Format.{NameBytes, in_stream, in_sequence, in_fields, ItemAt, marker-at, value_in_stream, value_in_sequence, field-at}
+use Rattle.stepping.specs.Meaning.{Skips, arrived, passed, Stands, the_end, the_item, refused_there, no_part, no_limit}
 use Rattle.stepping.specs.Runs.{cursor}
 use Rattle.stepping.specs.declared.cursor.Rules.{Rules}
+use Rattle.checking.specs.Private.Items.{start_of, ValueFits, Fits}
 use Rattle.stepping.proofs.PadSkipping.{Skipping, at-end, at_pad, at_item, at_refusal, Finds, unranged, unfit, fit, finds}
 use Rattle.stepping.proofs.Places.{ValueIn, ItemIn, a_marker as marker-in, a_value as value_in, a_field as field_in, pad_ends, item_in}
 use Rattle.stepping.proofs.Soundness.{steps-sound}
@@ -71,7 +74,16 @@ module _ (limit : ℕ) (rules : Rules) (s : List ℕ) (hi : ℕ) where
       go (unfit g h) = stopped l
       go (fit g m k w) = skipping_behind l w
 
--- ---- a value's type
+-- ---- what a step finds, where it begins
+
+named_on : {s : List ℕ} {hi : ℕ} {rules : Rules} {a n : ℕ} → NameBytes s hi rules a n → a ≤ n
+named_on in_stream = omega arith
+named_on in_sequence = omega arith
+named_on (in_fields m) = omega (arith, m.begins)
+
+skips_past : {rules : Rules} {s : List ℕ} {hi a z : ℕ} {ps : List Pad} → Skips rules s hi a ps z → a + length ps ≤ z
+skips_past arrived = omega arith
+skips_past (passed t w k) = omega (arith, skips_past k, named_on t.name, t.bytes.low, t.bytes.order)
 
 coded : {type code : ℕ} → ValueType type code → type ≤ 13
 coded (typed l m) = m
@@ -80,31 +92,60 @@ coded null_null = omega arith
 value_typed : {s : List ℕ} {at end : ℕ} {v : Spans} → TypedValue s at end v → v.byte / 16 ≤ 13
 value_typed {s} {at} t = subst (λ (b : ℕ). b / 16 ≤ 13) (sym t.byte) (coded t.type)
 
-bytes_typed : {s : List ℕ} {at end : ℕ} {v : Spans} → ValueBytes s at end v → v.byte / 16 ≤ 13
-bytes_typed (plain t) = value_typed t
-bytes_typed (annotated w) = subst (λ (b : ℕ). b / 16 ≤ 13) (sym w.byte) (value_typed w.value)
+-- it begins at z or later, and lies in the rest of the part
+abbrev pub Met : List ℕ → ℕ → ℕ → Outcome Item → Type 0
+Met s z hi (gives x) = (z ≤ start_of x) × Fits s (start_of x) hi (gives x)
+Met s z hi (refuses n p) = Unit {0}
 
-abbrev pub Typed : Item → Type 0
-Typed (finish p) = Unit {0}
-Typed (marker a x y e) = Unit {0}
-Typed (value v) = v.byte / 16 ≤ 13
-Typed (field id a v) = v.byte / 16 ≤ 13
+bytes_met : {s : List ℕ} {at hi : ℕ} {v : Spans} → ValueBytes s at hi v → (at ≤ v.start) × ValueFits s v.start hi v
+bytes_met (plain t) = (
+  omega (arith, t.start),
+  (omega (arith, t.start, t.descriptor), t.fits, record { bodied = omega (arith, t.low, t.descriptor); ended = t.order; within = omega (arith, t.fits, t.within); typed = value_typed t }),
+)
+bytes_met (annotated w) =
+    let i = w.value in (
+      omega (arith, w.start),
+      (
+        omega (arith, w.start, w.low, w.count.begins, w.some),
+        omega (arith, i.fits, w.ends),
+        record {
+          bodied = omega (arith, i.low, w.body);
+          ended = omega (arith, i.order, w.body, w.ends);
+          within = omega (arith, i.fits, i.within, w.ends);
+          typed = subst (λ (b : ℕ). b / 16 ≤ 13) (sym w.byte) (value_typed i);
+        },
+      ),
+    )
 
-item_typed : {s : List ℕ} {hi z : ℕ} {rules : Rules} {x : Item} → ItemAt s hi rules z x → Typed x
-item_typed (marker-at a b c d e f) = tt
-item_typed (value_in_stream b) = bytes_typed b
-item_typed (value_in_sequence b) = bytes_typed b
-item_typed (field-at id b) = bytes_typed b
+item_met : {s : List ℕ} {hi z : ℕ} {rules : Rules} {x : Item} (at : ℕ) → at ≤ z → ItemAt s hi rules z x → Met s at hi (gives x)
+item_met at l (marker-at _ _ _ _ fits _) = (l, (omega arith, fits))
+item_met at l (value_in_stream b) = let m = bytes_met b in (omega (arith, m.0), m.1)
+item_met at l (value_in_sequence b) = let m = bytes_met b in (omega (arith, m.0), m.1)
+item_met at l (field-at id b) = let m = bytes_met b in (l, (omega (arith, id.begins, m.0, m.1.0), m.1.1, m.1.2))
 
-stands_typed : {limit : ℕ} {rules : Rules} {s : List ℕ} {hi z : ℕ} {o : Outcome Item} → Stands limit rules s hi z o → (x : Item) → o ≡ gives x → Typed x
-stands_typed {hi = hi} (the_end q) x e = let r : finish hi ≡ x = cc in subst Typed r tt
-stands_typed (the_item {i = y} t w) x e = let r : y ≡ x = cc in subst Typed r (item_typed t)
-stands_typed (refused_there p q r) x e = absurd (let z : ◌≡◌ {A = ℕ} 0 1 = cc in omega arith)
-stands_typed (no_part q) x e = absurd (let z : ◌≡◌ {A = ℕ} 0 1 = cc in omega arith)
-stands_typed (no_limit q) x e = absurd (let z : ◌≡◌ {A = ℕ} 0 1 = cc in omega arith)
+stands_met : {limit : ℕ} {rules : Rules} {s : List ℕ} {hi z : ℕ} {o : Outcome Item} (at : ℕ) → at ≤ z → Stands limit rules s hi z o → Met s at hi o
+stands_met {hi = hi} at l (the_end q) = (omega (arith, q), refl)
+stands_met at l (the_item t w) = item_met at l t
+stands_met at l (refused_there p q r) = tt
+stands_met at l (no_part q) = tt
+stands_met at l (no_limit q) = tt
 
-pub found_typed : (limit : ℕ) (rules : Rules) (s : List ℕ) (at hi : ℕ) (x : Item) → (found limit rules s (cursor at hi)).answer ≡ gives x → Typed x
-found_typed limit rules s at hi x e = stands_typed (steps-sound limit rules s (cursor at hi)).2 x e
+module _ (limit : ℕ) (rules : Rules) (s : List ℕ) (at hi : ℕ) where
+  found_met : let f = found limit rules s (cursor at hi) in Met s (at + length f.pads) hi f.answer
+  found_met = let w = steps-sound limit rules s (cursor at hi) in stands_met (at + length (found limit rules s (cursor at hi)).pads) (skips_past w.1) w.2
+
+  -- of what was read, as the tactics are to have it
+  module _ (x : ItemEnum) (e : (found limit rules s (cursor at hi)).answer ≡ gives (places_of x)) where
+    met : Met s (at + length (found limit rules s (cursor at hi)).pads) hi (gives (places_of x))
+    met = subst (Met s (at + length (found limit rules s (cursor at hi)).pads) hi) e found_met
+
+    pub found_start : at + length (found limit rules s (cursor at hi)).pads ≤ start_of (places_of x)
+    found_start = met.0
+
+    pub found_fits : Fits s (start_of (places_of x)) hi (gives (places_of x))
+    found_fits = met.1
+
+pub ruleset found_in = (found_start, found_fits)
 
 -- an item of the document is no end
 abbrev pub NoEnd : Item → Type 0

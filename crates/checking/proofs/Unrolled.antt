@@ -8,7 +8,9 @@ use mathlib.Core.List.{List}
 use lib.ListN.{length, get_or}
 use lib.Seq.{set-get_or}
 use lib.Dec.{ltb}
+use Rattle.std.specs.Prelude.{Result, Ok, Err}
 use Rattle.numbers.specs.Outcome.{Outcome, gives, refuses, and_then}
+use Rattle.numbers.specs.declared.refusal.Refusal.{Refusal}
 use Rattle.numbers.proofs.Outcomes.{pick_same, then_like, inside}
 use Rattle.framing.specs.Limits.{out_of_range}
 use Rattle.framing.specs.Spans.{Spans}
@@ -21,7 +23,8 @@ use Rattle.stepping.specs.declared.cursor.Rules.TheVariants.{Stream}
 use Rattle.values.specs.Scalars.{is_container, body_rules}
 use Rattle.walking.specs.Walk.{limits_out}
 use Rattle.checking.specs.Counts.{markers, pads, place_of, none, counting}
-use Rattle.checking.specs.Reading.{Done, done, read_item}
+use Rattle.checking.specs.Reading.{Done, done, as_done, read_item}
+use Rattle.checking.specs.Read.{done_read, verdict_read}
 use Rattle.checking.specs.Check.{Parts, least_room, inside_of, value_check, on_answer, on_found, part_check, whole_check}
 use Rattle.checking.specs.Private.Whole.{full}
 use Rattle.checking.proofs.Places.{Lies, lies_earlier, found_behind}
@@ -99,3 +102,17 @@ module _ (limit deepest : ℕ) (s : List ℕ) where
   pub whole_in : limits_out limit deepest ≡ false → full limit s Stream deepest (length s) 0 none ≡ whole_check limit deepest s
   unfolding whole_check full
   whole_in h = let z : length s - 0 ≡ length s = omega arith in rw (h, z)
+
+-- a body by itself
+pub body_in : (limit room : ℕ) (rules : Rules) (s : List ℕ) → full limit s rules room (length s) 0 none ≡ part_check limit (length s) s rules room (length s) 0 none
+unfolding full
+body_in limit room rules s = let z : length s - 0 ≡ length s = omega arith in rw z
+
+-- a verdict by itself is the one that leaves counts
+pub done_alone : (u : Result (Unit {0}) Refusal) (c : List ℕ) → and_then (verdict_read u c) as_done ≡ done_read u
+done_alone (Ok u) c = refl
+done_alone (Err e) c = refl
+
+pub ruleset whole = (whole_out, whole_in)
+
+pub ruleset body = (body_in, done_alone)

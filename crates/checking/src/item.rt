@@ -1,18 +1,18 @@
-// One item of a map that is checked: what is read of a value, and where it is counted.
-ghost use Rattle.std.specs.Prelude.{◌≡◌, false, List, ℕ, ◌≤◌, length};
-ghost use Rattle.numbers.specs.Outcome.{Outcome, and_then};
+// One item of a map that is checked: what is read of a value, and the step to it.
+ghost use Rattle.std.specs.Prelude.{◌≡◌, false, ◌≤◌, length, OnOk};
+ghost use Rattle.numbers.specs.Outcome.{and_then};
 ghost use Rattle.framing.specs.Limits.{out_of_range};
 ghost use Rattle.framing.specs.Read.{spans_of};
 ghost use Rattle.stepping.specs.Answers.{found};
-ghost use Rattle.stepping.specs.Read.{item_read};
+ghost use Rattle.stepping.specs.Read.{places_of, item_read};
 ghost use Rattle.stepping.specs.Runs.{cursor};
 ghost use Rattle.values.specs.Read.{scalar_read};
 ghost use Rattle.checking.specs.Reading.{read_ids, read_body, read_item};
-ghost use Rattle.checking.specs.Check.{Parts, on_answer, on_found, value_check};
+ghost use Rattle.checking.specs.Counts.{pads, counting};
 ghost use Rattle.checking.specs.Read.{done_read};
-ghost use Rattle.checking.specs.Private.Items.{Below, Placed, Fits, head_read, on_head, HeadFits};
+ghost use Rattle.checking.specs.Private.Items.{start_of, Fits};
 
-use crate::counts::{Counts, PADS, place_of};
+use crate::counts::{PADS, Progress};
 use bodies::decimal::read_decimal;
 use counting::counted::count_at;
 use framing::annotations_iterator::read_annotation;
@@ -20,9 +20,10 @@ use framing::encoded_value::EncodedValue;
 use numbers::refusal::Refusal;
 use stepping::cursor::{Item, Rules};
 use timestamps::timestamp::read_timestamp;
-use values::value::{Scalar, open, read_placed};
+use values::value::{Scalar, read_placed};
 
 // The map that is checked, and the most bytes that its values' annotations may have: what a call of each level has in one place.
+// Apart from `Progress`, which the calls change: they only read this.
 #[derive(Clone, Copy)]
 pub(crate) struct Map<'a> {
     pub(crate) s: &'a [u8],
@@ -31,10 +32,12 @@ pub(crate) struct Map<'a> {
 }
 
 // Reads each annotation ID of the bytes start..end.
+#[tactic(auto, using(crate::proofs::Ids::ids))]
 pub fn read_ids(s: &[u8], start: usize, end: usize) -> Result<(), Refusal>
     ensures { done_read result ≡ read_ids s.now start end }
 {
     let mut at = start;
+    // No `for`: an ID takes as many bytes as it has.
     while at < end {
         let Some(annotation) = read_annotation(s, at, end)? else {
             return Ok(());
@@ -66,7 +69,8 @@ pub fn read_body(
 }
 
 // Reads a value: its annotation IDs, then its scalar.
-fn read_item(s: &[u8], value: EncodedValue) -> Result<(), Refusal>
+#[tactic(auto, using(crate::proofs::Scalars::contents), unfolding(crate::specs::Reading::read_item))]
+pub(crate) fn read_item(s: &[u8], value: EncodedValue) -> Result<(), Refusal>
     requires { (value.body ≤ value.end) × (value.end ≤ length s.now) }
     ensures { done_read result ≡ read_item s.now (spans_of value) }
 {
@@ -74,37 +78,33 @@ fn read_item(s: &[u8], value: EncodedValue) -> Result<(), Refusal>
     read_body(s, value.descriptor, read_placed(s, value))
 }
 
-// What the step at `at` answers, with the pads that it skips counted.
-pub(crate) fn meet(
-    map: &Map,
-    counts: &mut Counts,
-    rules: Rules,
-    at: usize,
-    end: usize,
-) -> Result<Item, Refusal>
-    requires { (at ≤ end) × (end ≤ length map.now.s.now) × Below at counts.old.places }
-    ensures meets { (inside : Parts) (onward : ℕ → List ℕ → Outcome (List ℕ)) (room : ℕ) → on_found map.now.s.now inside onward room counts.old.places (found map.now.limit rules map.now.s.now (cursor at end)) ≡ on_answer map.now.s.now inside onward room counts.new.places (item_read result) }
-    ensures fits { Fits map.now.s.now at end counts.new.places (item_read result) }
+// Where an item begins: an end where its part ends.
+fn start_of(item: Item) -> usize
+    ensures { result ≡ start_of (places_of item) }
 {
-    let step = count_at(rules, map.s, at, end, map.limit);
-    counts.add(PADS, step.pads as u64);
-    step.item
+    match item {
+        Item::End { position } => position,
+        Item::Marker { start, .. } | Item::Field { start, .. } => start,
+        Item::Value(value) => value.start,
+    }
 }
 
-// Reads a value and counts it: the rules of its body where it is a container, whose inside is still to be checked.
-pub(crate) fn check_head(
-    s: &[u8],
-    counts: &mut Counts,
-    value: EncodedValue,
-) -> Result<Option<Rules>, Refusal>
-    requires { Placed s.now (spans_of value) × Below value.descriptor counts.old.places }
-    ensures heads { (inside : Parts) (room : ℕ) → value_check s.now inside room (spans_of value) counts.old.places ≡ and_then (head_read result) (on_head inside room (spans_of value) counts.new.places) }
-    ensures fits { HeadFits (spans_of value) counts.new.places result }
+// What the next step in the part that ends at `end` answers: the check goes on to where that begins, with the pads that the step skips counted.
+#[tactic(auto, using(crate::proofs::Places::found_in), unfolding(counting::specs::Counted::counted))]
+pub(crate) fn meet(
+    map: &Map,
+    progress: &mut Progress,
+    rules: Rules,
+    end: usize,
+) -> Result<Item, Refusal>
+    requires { (progress.old.at ≤ end) × (end ≤ length map.now.s.now) }
+    ensures answers { item_read result ≡ (found map.now.limit rules map.now.s.now (cursor progress.old.at end)).answer }
+    ensures counts { OnOk result (progress.new.counts.places ≡ counting pads (length (found map.now.limit rules map.now.s.now (cursor progress.old.at end)).pads) progress.old.counts.places) }
+    ensures onward { progress.old.at ≤ progress.new.at }
+    ensures fits { Fits map.now.s.now progress.new.at end (item_read result) }
 {
-    read_item(s, value)?;
-    counts.add(place_of(value.byte / 16), 1);
-    match open(value) {
-        Ok(body) => Ok(Some(body.rules)),
-        Err(_) => Ok(None),
-    }
+    let step = count_at(rules, map.s, progress.at, end, map.limit);
+    let item = step.item?;
+    progress.pass(PADS, step.pads, start_of(item));
+    Ok(item)
 }

@@ -1,4 +1,6 @@
 // A step that counts the pads that it passes and the names that it begins to read, and comes back behind as many pads as it may pass.
+//
+// A part's rules, its slice, a position and the limit are parameters of their own, as in `stepping`.
 ghost use Rattle.std.specs.Prelude.{◌≡◌};
 ghost use Rattle.numbers.specs.Refusals.{number_of};
 ghost use Rattle.counting.specs.Pads.{begins_pad};
@@ -10,6 +12,7 @@ use framing::binary_buffer::read_nop_pad;
 use framing::limits::out_of_range;
 use numbers::binary_buffer::outside;
 use numbers::refusal::{Reason, Refusal};
+use numbers::type_descriptor::FIRST_NO_PAD;
 use stepping::cursor::{Cursor, Item, Rules, after_item, item_from, read_name};
 
 // What a step answers, how many pads it passed, and how many names it began to read: in a struct's body these are field IDs.
@@ -20,7 +23,7 @@ pub struct Counted {
     pub names: usize,
 }
 
-// What a bounded step answers.
+// What a bounded step answers. Both cases tell something, so an `Option` would be no plainer, and `More` is no refusal, so no `Result`.
 #[derive(Clone, Copy, Debug, PartialEq, Eq)]
 pub enum Bounded {
     // The answer of the step, which met its bound nowhere.
@@ -39,18 +42,15 @@ pub struct BoundedStep {
 // More pads than a part can have.
 const NO_BOUND: usize = usize::MAX;
 
-// The first byte that begins no pad.
-const FIRST_VALUE: u8 = 0x0F;
-
 // Whether a byte is a pad's descriptor.
 #[tactic(auto, using(crate::proofs::PadReading::begins))]
 fn begins_pad(byte: u8) -> bool
     ensures { result ≡ begins_pad byte }
 {
-    byte < FIRST_VALUE
+    byte < FIRST_NO_PAD
 }
 
-// A step that is refused before anything is read.
+// A step that is refused before anything is read. By its reason: `numbers` names two of the three refusals that are given so, and none has counts.
 fn refused_at_once(reason: Reason) -> Bounded
     ensures { bounded_read result ≡ reached (unbegun (number_of reason)) }
 {
@@ -101,8 +101,10 @@ pub fn bounded_at(
     let mut from = at;
     let mut pads = 0;
     let mut names = 0;
+    // No index is counted: behind a pad it goes on where the pad ends.
     while from < end {
         names += 1;
+        // No `?`: the counts go with a refusal.
         let name = match read_name(rules, s, from, end) {
             Ok(name) => name,
             Err(refusal) => {
@@ -114,7 +116,7 @@ pub fn bounded_at(
             }
         };
         if !begins_pad(s[name.next]) {
-            let item = item_from(rules, s, from, name.id, name.next, end, limit);
+            let item = item_from(rules, s, from, name, end, limit);
             return Bounded::Reached(Counted { item, pads, names });
         }
         if pads == most {

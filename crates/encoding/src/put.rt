@@ -13,6 +13,7 @@ const LONG: usize = 14;
 pub fn var_uint_size(n: usize) -> usize
     ensures { result ≡ var_uint_size n }
 {
+    // A cast, here and below: std has no `From` for these types, and each is proved to lose nothing.
     n.max(1).ilog(128) as usize + 1
 }
 
@@ -24,7 +25,7 @@ pub fn head_size(n: usize) -> usize
     if n < LONG { 1 } else { 1 + var_uint_size(n) }
 }
 
-// The seven bits of `n` that `k` bytes follow.
+// The seven bits of `n` that `k` bytes follow. Byte by byte: for a large `k` the power of 128 is no `usize`, and a shift is too long.
 #[tactic(auto, using(crate::proofs::VarUInts::next_power, crate::proofs::VarUInts::no_power))]
 fn digit(n: usize, k: usize) -> usize
     ensures { result ≡ n / 128 ^ k % 128 }
@@ -46,6 +47,7 @@ pub fn put_byte(out: &mut [u8], at: usize, byte: u8)
 }
 
 // Puts all bytes of another slice.
+#[tactic(auto, using(crate::proofs::Stores::sets_out, crate::proofs::Stores::bytes_stored, crate::proofs::Stores::bytes_over))]
 pub fn put_bytes(out: &mut [u8], at: usize, from: &[u8])
     ensures { out.new ≡ sets out.old at from.now }
 {
@@ -53,25 +55,27 @@ pub fn put_bytes(out: &mut [u8], at: usize, from: &[u8])
         return;
     }
     let n = from.len().min(out.len() - at);
-    // Byte by byte: by `copy_from_slice` the archive would ask its programs for `memmove`, where it asks for `memcpy` alone.
+    // Byte by byte: by `copy_from_slice` the archive would ask its programs for `memmove`, beside `memset` and `memcpy`. By
+    // places and not over two slices: the contract tells a byte by where it stands in the whole buffer.
     for i in 0..n {
         out[at + i] = from[i];
     }
 }
 
 // Puts a VarUInt of `n` in k + 1 bytes.
+#[tactic(auto, using(crate::proofs::Stores::sets_out, crate::proofs::Stores::digits_stored, crate::proofs::Stores::digits_over))]
 pub fn put_var_uint_in(out: &mut [u8], at: usize, k: usize, n: usize)
     ensures { out.new ≡ sets out.old at (var_uint_in k n) }
 {
-    let mut to = at;
-    for left in (0..k).rev() {
-        if out.len() <= to {
-            return;
-        }
-        out[to] = digit(n, left + 1) as u8;
-        to += 1;
+    if out.len() <= at {
+        return;
     }
-    put_byte(out, to, (128 + n % 128) as u8);
+    let most = k.min(out.len() - at);
+    // By places: a digit is told by how many follow it.
+    for i in 0..most {
+        out[at + i] = digit(n, k - i) as u8;
+    }
+    put_byte(out, at + most, (128 + n % 128) as u8);
 }
 
 // Puts a VarUInt in the fewest bytes.
@@ -82,7 +86,8 @@ pub fn put_var_uint(out: &mut [u8], at: usize, n: usize)
     put_var_uint_in(out, at, var_uint_size(n) - 1, n);
 }
 
-// Puts the descriptor of the type of `byte`, and the length field of `n` bytes.
+// Puts the descriptor of the type of `byte`, and the length field of `n` bytes. By the byte's halves: a descriptor would be made with its kind.
+#[tactic(auto, using(crate::proofs::Stores::sets_out, crate::proofs::Stores::short_stored, crate::proofs::Stores::long_stored))]
 pub fn put_head(out: &mut [u8], at: usize, byte: u8, n: usize)
     ensures { out.new ≡ sets out.old at (head_bytes (byte / 16) n) }
 {

@@ -3,7 +3,7 @@
 -- Assumes nothing.
 use Prim.Native.Nat.{ℕ, zero, suc, ◌+◌, ◌/◌, ◌%◌, ◌^◌, ◌<◌}
 use native.Mathlib.Omega.{arith}
-use borrow.Author.Tests.{eqb-true, eqb-false, not-true, lt-ltb}
+use borrow.Author.Tests.{eqb-true, eqb-false, not-true, lt-ltb, ltb-true, ne_eqb}
 use mathlib.Core.Path.{◌≡◌, refl, sym, subst}
 use mathlib.Core.Bool.{Bool, true, false, not, true≢false}
 use mathlib.Core.List.{List}
@@ -14,7 +14,7 @@ use Rattle.numbers.specs.declared.type_descriptor.TypeDescriptor.{TypeDescriptor
 use Rattle.numbers.proofs.Outcomes.{by_test, by_case}
 use Rattle.framing.proofs.Table.{first_test, second_test}
 use Rattle.framing.specs.Answers.{no_value, length_at, value_code, bad_float, short_timestamp, empty_ordered, length_tests, value_length}
-use Rattle.framing.specs.Private.InlineLengths.{inline_length, has_inline_length, inline_codes}
+use Rattle.framing.specs.Private.InlineLengths.{inline_length, has_inline_length, inline_codes, is_ordered, has_length_field}
 
 -- ---- the table
 
@@ -105,3 +105,31 @@ high_type type code h = rw (lt-ltb 14 type (omega arith)) (by_case (ltb 15 code)
 pub high_code : (type code : ℕ) → 15 < code → false ≡ has_inline_length type code
 unfolding has_inline_length
 high_code type code h = rw (lt-ltb 15 code h)
+
+-- ---- a VarUInt says the length
+
+-- with length code 14, by type: a number has the bit of each type that reads one
+pub bit_length_field : (type : ℕ) → type < 16 → eqb (0x3FEC / 2 ^ type % 2) 1 ≡ has_length_field type 14
+unfolding has_length_field value_code bad_float
+bit_length_field type t =
+    same_is _ _ (holds_at 16 (λ x. same (eqb (0x3FEC / 2 ^ x % 2) 1) (has_length_field x 14)) tt type t)
+
+-- and else in an ordered struct alone
+pub ordered_length_field : (type code : ℕ) → eqb code 14 ≡ false → is_ordered type code ≡ has_length_field type code
+unfolding is_ordered has_length_field value_code bad_float
+ordered_length_field type code n =
+    by_case (ltb type 2)
+    (λ l.
+    let o : eqb type 13 ≡ false = ne_eqb type 13 (omega (arith, ltb-true type 2 l)) in
+    rw (l, o))
+    (λ l.
+    rw l
+    (by_case (eqb type 13)
+    (λ o. rw (o, eqb-true type 13 o) (by_case (eqb code 1) (λ e. rw e) (λ e. rw (e, n))))
+    (λ o. rw (o, n))))
+
+pub high_length_field : (type code : ℕ) → 15 < type → has_length_field type code ≡ false
+unfolding has_length_field
+high_length_field type code h =
+    let l : ltb 13 type ≡ true = lt-ltb 13 type (omega arith) in
+    by_case (eqb (value_code type code) 14) (λ e. rw (e, l)) (λ e. rw e)

@@ -4,9 +4,9 @@ ghost use Rattle.framing.specs.Answers.{read_annotation};
 ghost use Rattle.framing.specs.Read.{annotation_read};
 
 use numbers::binary_buffer::{outside, read_var_uint};
-use numbers::refusal::{Reason, Refusal};
+use numbers::refusal::{OUTSIDE, Refusal};
 
-// An annotation's ID, and where the next one begins.
+// An annotation's ID, and where the next one begins. A type of its own, and not `VarUInt`, since its field's name says what the number is.
 #[derive(Clone, Copy, Debug, PartialEq, Eq)]
 pub struct Annotation {
     pub id: usize,
@@ -19,10 +19,7 @@ pub fn read_annotation(s: &[u8], at: usize, end: usize) -> Result<Option<Annotat
     ensures { annotation_read result ≡ read_annotation s.now at end }
 {
     if outside(s, at, end) {
-        return Err(Refusal {
-            reason: Reason::Outside,
-            position: 0,
-        });
+        return Err(OUTSIDE);
     }
     if at == end {
         return Ok(None);

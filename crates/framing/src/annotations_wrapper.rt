@@ -15,7 +15,8 @@ use numbers::binary_buffer::read_var_uint;
 use numbers::refusal::{Reason, Refusal};
 use numbers::var_uint::VarUInt;
 
-// Tests the wrapper at `at` by its combined length and its annotations' length.
+// Tests the wrapper at `at` by its combined length and its annotations' length. By numbers, and no `Described`: it reads no byte.
+#[inline(always)]
 #[tactic(auto, using(std::proofs::lemmas::Bool::Decides::nat_tests), unfolding(crate::specs::Answers::wrapper_tests))]
 fn check_wrapper(
     at: usize,
@@ -68,6 +69,7 @@ fn check_wrapper(
 }
 
 // The wrapper that begins here.
+#[inline(always)]
 #[tactic(auto, using(std::proofs::lemmas::Bool::Decides::nat_tests), unfolding(crate::specs::Answers::wrapper_at, crate::specs::Answers::annotations_at))]
 pub(crate) fn read_wrapper(place: Described, limit: usize) -> Result<AnnotationsWrapper, Refusal>
     ensures { wrapper_read result ≡ wrapper_at limit place.entry.s.now place.entry.at place.entry.end place.entry.descriptor }
@@ -82,7 +84,8 @@ pub(crate) fn read_wrapper(place: Described, limit: usize) -> Result<Annotations
     check_wrapper(place.at, place.end, combined, size, limit)
 }
 
-// A value where it stands, once its wrapper is read: `expected` is how long the wrapper's lengths say that it is, 0 where it has no wrapper.
+// A value where it stands, once its wrapper is read: `expected` is how long the wrapper's lengths say that it is, 0 where it has no wrapper. A number and no
+// Option, since no wrapper says 0, and one test in the definition is enough.
 #[derive(Clone, Copy)]
 pub(crate) struct Located<'a> {
     pub annotations: usize,
@@ -91,6 +94,7 @@ pub(crate) struct Located<'a> {
 }
 
 // What stands in a wrapper that begins here, where something does that may.
+#[inline(always)]
 #[tactic(auto, using(std::proofs::lemmas::Bool::Decides::nat_tests), unfolding(crate::specs::Private::Located::inner_at, crate::specs::Private::Located::inner_tests))]
 fn locate_inner_value(place: Described, wrapper: AnnotationsWrapper) -> Result<Located<'_>, Refusal>
     ensures answers { located_read result ≡ inner_at place.entry.s.now place.entry.end (wrapping_of wrapper) }
@@ -124,6 +128,7 @@ fn locate_inner_value(place: Described, wrapper: AnnotationsWrapper) -> Result<L
 
 // The value of the wrapper that begins here: ion-rust's `read_annotated_value` up to the value's length, which `read_located_value` reads with or without a
 // wrapper.
+#[inline(always)]
 #[tactic(auto, using(std::proofs::lemmas::Bool::Decides::nat_tests), unfolding(crate::specs::Private::Located::location_in_wrapper))]
 fn locate_annotated_value(place: Described, limit: usize) -> Result<Located<'_>, Refusal>
     ensures answers { located_read result ≡ location_in_wrapper limit place.entry.s.now place.entry.at place.entry.end place.entry.descriptor }
@@ -134,6 +139,7 @@ fn locate_annotated_value(place: Described, limit: usize) -> Result<Located<'_>,
 }
 
 // The value that begins here, or the one in the wrapper that does.
+#[inline(always)]
 #[tactic(auto, using(std::proofs::lemmas::Bool::Decides::nat_tests), unfolding(crate::specs::Private::Located::location_at))]
 pub(crate) fn locate_value(place: Described, limit: usize) -> Result<Located<'_>, Refusal>
     ensures answers { located_read result ≡ location_at limit place.entry.s.now place.entry.at place.entry.end place.entry.descriptor }

@@ -2,6 +2,7 @@
 //
 // Each function reads the part at..end of `s`, whose first byte is the descriptor; `limit` is the most bytes that a value's annotations may have. The public ones
 // take these as parameters and no struct of them, since the layers above hand them on as C gave them; behind the first look they are in a `Described`.
+// What frames an item stands in its callers' place: without a call in it a step needs no frame on the stack, and a check or a pack takes a tenth less.
 ghost use Rattle.std.specs.Prelude.{◌≡◌, ℕ, ◌+◌, ◌≤◌, ◌<◌, length, get_or, IfOk};
 ghost use Rattle.framing.specs.Answers.{peeked_descriptor, is_pad, is_wrapper, no_value, pad_at, value_at, frame_at, read_value, read_frame, read_value_length, read_pad, read_wrapper};
 ghost use Rattle.framing.specs.Limits.{limited};
@@ -19,12 +20,10 @@ use crate::encoded_value::{
 };
 use crate::limits::out_of_range;
 use numbers::binary_buffer::{outside, short_var_uint};
-use numbers::refusal::{Reason, Refusal};
-use numbers::type_descriptor::{Kind, TypeDescriptor};
+use numbers::refusal::{LIMIT_OUT_OF_RANGE, OUTSIDE, Reason, Refusal};
+use numbers::type_descriptor::{FIRST_NO_PAD, Kind, TypeDescriptor};
 
-// The first byte that begins a value and no pad, and the first that begins none again.
-const FIRST_VALUE: u8 = 0x0F;
-
+// The first byte past those that begin a value or a null.
 const FIRST_WRAPPER: u8 = 0xE0;
 
 // Tests of a kind, under the names that the contracts have for them.
@@ -48,6 +47,7 @@ pub(crate) fn no_value(kind: Kind) -> bool
 }
 
 // Looks at the descriptor at `at`.
+#[inline(always)]
 #[tactic(auto, using(std::proofs::lemmas::Bool::Decides::nat_tests), unfolding(crate::specs::Answers::peeked_descriptor))]
 pub(crate) fn peek_type_descriptor(
     s: &[u8],
@@ -58,10 +58,7 @@ pub(crate) fn peek_type_descriptor(
     ensures there { IfOk result (λ d. (d.s.now ≡ s.now) × (d.at ≡ at) × (d.end ≡ end)) }
 {
     if outside(s, at, end) {
-        return Err(Refusal {
-            reason: Reason::Outside,
-            position: 0,
-        });
+        return Err(OUTSIDE);
     }
     if at == end {
         return Err(Refusal {
@@ -78,6 +75,7 @@ pub(crate) fn peek_type_descriptor(
 }
 
 // The pad that begins here.
+#[inline(always)]
 #[tactic(auto, using(std::proofs::lemmas::Bool::Decides::nat_tests), unfolding(crate::specs::Answers::pad_at, crate::specs::Answers::padded))]
 fn read_pad(place: Described) -> Result<NopPad, Refusal>
     ensures { pad_read result ≡ pad_at place.entry.s.now place.entry.at place.entry.end place.entry.descriptor }
@@ -107,6 +105,7 @@ fn differs(expected: usize, size: usize) -> bool
 }
 
 // The value that is located here, in the item at `at`, where it has this first byte and is to have this length.
+#[inline(always)]
 #[tactic(auto, using(std::proofs::lemmas::Bool::Decides::nat_tests), unfolding(crate::specs::Private::Located::fitted))]
 fn fit_value(at: usize, found: Located, byte: u8, size: Length) -> Result<EncodedValue, Refusal>
     requires { (found.value.at ≤ size.body) × (size.body ≤ found.value.end) }
@@ -137,6 +136,7 @@ fn fit_value(at: usize, found: Located, byte: u8, size: Length) -> Result<Encode
 }
 
 // The value that is located here, in the item at `at`.
+#[inline(always)]
 #[tactic(auto, using(std::proofs::lemmas::Bool::Decides::nat_tests), unfolding(crate::specs::Private::Located::located_value))]
 fn read_located_value(at: usize, located: Located) -> Result<EncodedValue, Refusal>
     ensures { framed_read result ≡ located_value located.entry.value.s.now at located.entry.value.end (location_of located.entry) }
@@ -147,6 +147,7 @@ fn read_located_value(at: usize, located: Located) -> Result<EncodedValue, Refus
 }
 
 // The value that begins here, with or without a wrapper.
+#[inline(always)]
 #[tactic(auto, using(std::proofs::lemmas::Bool::Decides::nat_tests, crate::proofs::Location::value_located))]
 fn read_value_at(place: Described, limit: usize) -> Result<EncodedValue, Refusal>
     ensures { framed_read result ≡ value_at limit place.entry.s.now place.entry.at place.entry.end place.entry.descriptor }
@@ -156,6 +157,7 @@ fn read_value_at(place: Described, limit: usize) -> Result<EncodedValue, Refusal
 }
 
 // The pad or the value that begins here.
+#[inline(always)]
 #[tactic(auto, using(std::proofs::lemmas::Bool::Decides::nat_tests), unfolding(crate::specs::Answers::frame_at))]
 fn read_frame_at(place: Described, limit: usize) -> Result<Frame, Refusal>
     ensures { frame_read result ≡ frame_at limit place.entry.s.now place.entry.at place.entry.end place.entry.descriptor }
@@ -174,21 +176,18 @@ pub fn read_value(s: &[u8], at: usize, end: usize, limit: usize) -> Result<Encod
     ensures { framed_read result ≡ limited limit (read_value limit s.now at end) }
 {
     if out_of_range(limit) {
-        return Err(Refusal {
-            reason: Reason::LimitOutOfRange,
-            position: 0,
-        });
+        return Err(LIMIT_OUT_OF_RANGE);
     }
     let place = peek_type_descriptor(s, at, end)?;
     read_value_at(place, limit)
 }
 
-// Whether a byte begins a value or a null, without a wrapper.
+// Whether a byte begins a value or a null, without a wrapper. By two comparisons, and not by `no_value`: its kind would be made for it.
 #[tactic(auto, using(std::proofs::lemmas::Bool::Decides::nat_tests), unfolding(crate::specs::ShortValue::begins_value, numbers::specs::Descriptor::kind_of))]
 fn begins_value(byte: u8) -> bool
     ensures { result ≡ begins_value byte }
 {
-    FIRST_VALUE <= byte && byte < FIRST_WRAPPER
+    FIRST_NO_PAD <= byte && byte < FIRST_WRAPPER
 }
 
 // The value without a wrapper whose descriptor is this byte at `at`, with the body body..end.
@@ -206,6 +205,7 @@ pub fn bare_value(byte: u8, at: usize, body: usize, end: usize) -> EncodedValue
 }
 
 // The length of the value at `at`, where it has no wrapper and a length field of three bytes at most: its descriptor tells it, or a short VarUInt does.
+// Of a part, and of no `Described`, whose descriptor is made here, once its byte is known to begin a value.
 fn short_length(s: &[u8], at: usize, end: usize) -> Option<Length>
     requires { (at < end) × (end ≤ length s.now) }
     ensures { ShortLengthAt s.now at end result }
@@ -247,15 +247,13 @@ pub fn short_value(s: &[u8], at: usize, end: usize) -> Option<Length>
 }
 
 // The pad or the value at `at`.
+#[inline(always)]
 #[tactic(auto, using(std::proofs::lemmas::Bool::Decides::nat_tests), unfolding(crate::specs::Answers::read_frame))]
 pub fn read_frame(s: &[u8], at: usize, end: usize, limit: usize) -> Result<Frame, Refusal>
     ensures { frame_read result ≡ limited limit (read_frame limit s.now at end) }
 {
     if out_of_range(limit) {
-        return Err(Refusal {
-            reason: Reason::LimitOutOfRange,
-            position: 0,
-        });
+        return Err(LIMIT_OUT_OF_RANGE);
     }
     let place = peek_type_descriptor(s, at, end)?;
     read_frame_at(place, limit)
@@ -302,10 +300,7 @@ pub fn read_annotations_wrapper(
     ensures { wrapper_read result ≡ limited limit (read_wrapper limit s.now at end) }
 {
     if out_of_range(limit) {
-        return Err(Refusal {
-            reason: Reason::LimitOutOfRange,
-            position: 0,
-        });
+        return Err(LIMIT_OUT_OF_RANGE);
     }
     let place = peek_type_descriptor(s, at, end)?;
     if !is_wrapper(place.descriptor.kind) {

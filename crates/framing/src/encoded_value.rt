@@ -60,7 +60,12 @@ const INLINE_LENGTHS: [u16; 16] = [
     0xBFFF, 0xBFFD, 0, 0,
 ];
 
+// The types whose values have a VarUInt for their length with length code 14: a bit for each type code, the lowest for 0. A float has none. By comparisons, such a
+// value takes five instructions more.
+const TYPES_WITH_LENGTH_FIELD: u16 = 0x3FEC;
+
 // The length that a length code tells; its VarUInt, if it has one, is at `at`.
+#[inline(always)]
 #[tactic(auto, using(std::proofs::lemmas::Bool::Decides::nat_tests), unfolding(crate::specs::Answers::length_at))]
 pub(crate) fn read_length(s: &[u8], at: usize, end: usize, code: u8) -> Result<Length, Refusal>
     ensures answers { length_read result ≡ length_at s.now at end code }
@@ -139,15 +144,17 @@ fn bad_float(descriptor: TypeDescriptor) -> bool
     descriptor.type_code == 4 && !matches!(descriptor.length_code, 0 | 4 | 8 | 15)
 }
 
-// Whether a VarUInt says the length of a value with this descriptor. A float has none.
-#[tactic(auto, using(std::proofs::lemmas::Bool::Decides::nat_tests), unfolding(crate::specs::Private::InlineLengths::has_length_field, crate::specs::Private::InlineLengths::is_ordered, crate::specs::Answers::value_code, crate::specs::Answers::bad_float))]
+// Whether a VarUInt says the length of a value with this descriptor.
 pub(crate) fn has_length_field(descriptor: TypeDescriptor) -> bool
     ensures { result ≡ has_length_field descriptor.type_code descriptor.length_code }
 {
     if descriptor.length_code != 14 {
         return is_ordered(descriptor);
     }
-    2 <= descriptor.type_code && descriptor.type_code < 14 && descriptor.type_code != 4
+    if 15 < descriptor.type_code {
+        return false;
+    }
+    (TYPES_WITH_LENGTH_FIELD >> descriptor.type_code) % 2 == 1
 }
 
 #[tactic(auto, using(std::proofs::lemmas::Bool::Decides::nat_tests), unfolding(crate::specs::Answers::short_timestamp))]
@@ -173,6 +180,7 @@ pub(crate) fn too_short(descriptor: TypeDescriptor, size: usize) -> bool
 }
 
 // Tests the length of the value with this descriptor at `at`.
+#[inline(always)]
 #[tactic(auto, using(std::proofs::lemmas::Bool::Decides::nat_tests), unfolding(crate::specs::Answers::length_tests))]
 fn check_length(at: usize, descriptor: TypeDescriptor, length: Length) -> Result<Length, Refusal>
     ensures { length_read result ≡ length_tests at descriptor.type_code descriptor.length_code (sized_of length) }
@@ -199,6 +207,7 @@ fn check_length(at: usize, descriptor: TypeDescriptor, length: Length) -> Result
 }
 
 // The length of the value that begins here.
+#[inline(always)]
 #[tactic(auto, using(std::proofs::lemmas::Bool::Decides::nat_tests), unfolding(crate::specs::Answers::value_length))]
 pub(crate) fn value_length(place: Described) -> Result<Length, Refusal>
     ensures { length_read result ≡ value_length place.entry.s.now place.entry.at place.entry.end place.entry.descriptor }

@@ -16,7 +16,7 @@ const ANNOTATION_LIMIT: usize = 255;
 
 const DEPTH_LIMIT: usize = 32;
 
-// The name of a type, by its code.
+// The name of a type, by its code. A type code is the document's own number.
 pub fn type_name(code: u8) -> &'static str {
     match code {
         0 => "null",
@@ -51,6 +51,7 @@ impl Line {
         value: EncodedValue,
     ) -> fmt::Result {
         let depth = self.depth;
+        // By the byte's halves, as in `values`: a descriptor would be made with its kind for each test.
         let name = type_name(value.byte / 16);
         write!(
             f,
@@ -97,6 +98,7 @@ fn list_map<W: Write>(out: &mut W, map: &[u8]) -> io::Result<()> {
 // Writes the walk of the map that is read from a file; of one that is too long, only that.
 pub fn list_file<R: Print + AllocGlobal>(rt: &R, file: &mut impl Read) -> io::Result<()> {
     let mut map = Vec::new(rt.alloc());
+    // `as`: std has no `From` of a `usize` for a `u64`.
     file.take(MOST as u64 + 1).read_to_end(&mut map)?;
     let mut out = BufWriter::new(rt.alloc(), io::writer(rt))?;
     if MOST < map.len() {

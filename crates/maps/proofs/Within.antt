@@ -2,7 +2,7 @@
 -- Assumes nothing.
 use Prim.Native.Nat.{ℕ, ◌≤◌, ◌<◌}
 use borrow.Author.Tests.{ltb-true, ltb-false, leb-true, lt-ltb, le-ltb, le-leb}
-use mathlib.Core.Path.{◌≡◌, ◌∙◌, sym}
+use mathlib.Core.Path.{◌≡◌, ◌∙◌, sym, ap}
 use mathlib.Core.Bool.{true, false, true≢false}
 use mathlib.Core.List.{List}
 use lib.ListN.{length}
@@ -87,6 +87,13 @@ given limit s start end at kind rules e =
     let f : gives (rules_of kind) ≡ gives rules = rw (g, i) at e in
     record { ranged = g; within = inside s start end at kind i; rules_is = cc }) (λ i.
     absurd (let f = rw (g, i) at e in cc)))
+
+-- there the exported step is the step by them
+pub by_rules : (limit : ℕ) (s : List ℕ) (start end at kind : ℕ) {rules : Rules} → part_rules limit s start end at kind ≡ gives rules → exported_step limit s start end at kind ≡ answer_at limit rules s at end
+by_rules limit s start end at kind {rules} e =
+    let g = given limit s start end at kind rules e in
+    step_is limit s start end at kind g.within.low g.within.kind_is
+    ∙ sym (ap (λ (r : Rules). answer_at limit r s at end) g.rules_is)
 
 -- one refusal, of whatever is asked for
 same_refusal : {A B : Type 0} {n m p q : ℕ} → ◌≡◌ {A = Outcome A} (refuses n p) (refuses m q) → ◌≡◌ {A = Outcome B} (refuses n p) (refuses m q)

@@ -14,7 +14,8 @@ use records::words::refused_words;
 use std::ops::ControlFlow;
 
 // One step, by the part's kind: 0 a stream, 1 the body of a list or a sexp, 2 the body of a struct. Its record is put at the start of `out`; returned is 0 or
-// the refusal's number.
+// the refusal's number. Whether the buffer has room is tested here first: a step that leaves its caller at a place tells no number.
+#[tactic(auto, using(std::proofs::lemmas::Bool::Decides::nat_tests, crate::proofs::Within::by_rules, crate::proofs::Putting::returned_left), unfolding(records::specs::Buffer::answered, records::specs::Buffer::words_in))]
 pub fn ion_map_step(
     map: &[u8],
     start: usize,

@@ -1,7 +1,7 @@
 // A step whose record is put into a lent buffer.
 //
-// `limit` is the most bytes that a value's annotations may have. A part's slice, its places and its limit are parameters of their own, since the exports to C
-// hand them on as they came.
+// `limit` is the most bytes that a value's annotations may have. A part's slice, its places and its limit are parameters of their own: the exports to C hand
+// them on to `part_rules` as they came, and for `put_step` and `put_long` a struct of them would be made at each call.
 ghost use Rattle.std.specs.Prelude.{◌≡◌};
 ghost use Rattle.numbers.specs.Read.{outcome};
 ghost use Rattle.stepping.specs.Answers.{answer_at};
@@ -15,18 +15,17 @@ ghost use Rattle.maps.specs.Put.{put_by};
 use framing::binary_buffer::short_value;
 use framing::limits::out_of_range;
 use numbers::binary_buffer::outside;
-use numbers::refusal::Refusal;
+use numbers::refusal::{LIMIT_OUT_OF_RANGE, OUTSIDE, Refusal};
 use records::buffer::put_record;
-use records::words::{
-    LIMIT_OUT_OF_RANGE, OUTSIDE, bare_words, end_words, item_words, refused_words,
-};
+use records::words::{bare_words, end_words, item_words, refused_words};
 use std::ops::ControlFlow;
-use stepping::cursor::{Name, Rules, item_from, left_by, read_name, rules_of};
+use stepping::cursor::{Name, Rules, item_from, left_by, rules_of, short_name};
 
 // The last of the kinds of a part. The kind is tested beside the places, and not by `Rules::try_from`, which takes a step some 8 instructions more.
 const LAST_KIND: u64 = 2;
 
 // The rules of the part start..end of the map, by its kind, where the limit is one, `at` is in the part, and there is such a kind.
+#[tactic(auto, using(std::proofs::lemmas::Bool::Decides::nat_tests), unfolding(numbers::specs::Outcome::outside_of))]
 pub fn part_rules(
     map: &[u8],
     start: usize,
@@ -40,13 +39,14 @@ pub fn part_rules(
     if out_of_range(limit) {
         return Err(LIMIT_OUT_OF_RANGE);
     }
-    if map.len() < end || end < at || at < start || LAST_KIND < kind {
+    if outside(map, at, end) || at < start || LAST_KIND < kind {
         return Err(OUTSIDE);
     }
     Ok(rules_of(kind))
 }
 
-// Puts the record of whatever stands behind a name and is no short value.
+// Puts the record of whatever is no short value behind a short name; a name that was read is not read again.
+#[tactic(auto, using(crate::proofs::Putting::left_put, crate::proofs::Putting::over_put))]
 fn put_long(
     rules: Rules,
     map: &[u8],
@@ -59,7 +59,7 @@ fn put_long(
     ensures value { result ≡ put_by (answer_from limit rules map.now at end (name_of name)) out.old }
     ensures out_after { out.new ≡ record_in (words (answer_from limit rules map.now at end (name_of name))) out.old }
 {
-    match item_from(rules, map, at, name.id, name.next, end, limit) {
+    match item_from(rules, map, at, name, end, limit) {
         Ok(item) => {
             let number = put_record(out, item_words(item));
             match left_by(Ok(item)) {
@@ -73,6 +73,7 @@ fn put_long(
 
 // Puts the record of the step at `at`, and tells where the step leaves its caller: at the next step, or nowhere, with the number that its call returns. The end
 // and a short value are read here. Each answer's words are put by themselves: one place for all of them would build the words in memory and copy them.
+#[tactic(auto, using(crate::proofs::Putting::refused_put, crate::proofs::Putting::over_put, crate::proofs::Within::refused_unranged, crate::proofs::Within::refused_outside, stepping::proofs::Moves::moves_end, numbers::proofs::Outcomes::inside_order, numbers::proofs::Outcomes::inside_end))]
 pub fn put_step(
     rules: Rules,
     map: &[u8],
@@ -93,18 +94,18 @@ pub fn put_step(
     if end <= at {
         return ControlFlow::Break(put_record(out, end_words(end)));
     }
-    match read_name(rules, map, at, end) {
-        Ok(name) => match short_value(map, name.next, end) {
-            Some(length) => {
-                let past = length.body + length.size;
-                put_record(
-                    out,
-                    bare_words(rules, at, name, map[name.next], length, past),
-                );
-                ControlFlow::Continue(past)
-            }
-            None => put_long(rules, map, at, name, end, limit, out),
-        },
-        Err(refusal) => ControlFlow::Break(put_record(out, refused_words(refusal))),
+    let short = short_name(rules, map, at, end);
+    if let Some(name) = short {
+        if let Some(length) = short_value(map, name.next, end) {
+            let past = length.body + length.size;
+            put_record(
+                out,
+                bare_words(rules, at, name, map[name.next], length, past),
+            );
+            return ControlFlow::Continue(past);
+        }
     }
+    // None as a name of no bytes: `item_from` takes a name that is still to be read.
+    let name = short.unwrap_or(Name { id: 0, next: at });
+    put_long(rules, map, at, name, end, limit, out)
 }

@@ -1,4 +1,4 @@
-// The step, `ion_map_step`, as other languages call it: the function of the crate `maps`, under its clauses.
+// The step, `ion_map_step`, as other languages call it: the function of the crate `maps`, under its clauses. The parameters are C's.
 #![tactic(auto)]
 
 ghost use Rattle.std.specs.Prelude.{◌≡◌};

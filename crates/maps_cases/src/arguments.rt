@@ -2,15 +2,10 @@
 // before the limits.
 use crate::left::FILL;
 use questions::hexadecimal;
-use questions::words::Words;
-use std::alloc::{AllocError, Global};
+use questions::words::{ANNOTATION_LIMIT, DEPTH_LIMIT, Words};
+use std::alloc::AllocError;
 
-// The limits where a line says none.
-const ANNOTATION_LIMIT: usize = 255;
-
-const DEPTH_LIMIT: usize = 32;
-
-// What the lent system text is where a line says none: the nine texts.
+// What the lent system text is where a line says none: the nine texts. A copy, so that a change there is seen here.
 const SYSTEM_TEXT: &[u8] =
     b"$ion$ion_1_0$ion_symbol_tablenameversionimportssymbolsmax_id$ion_shared_symbol_table";
 
@@ -35,17 +30,7 @@ impl Place {
     }
 }
 
-// A buffer of the length that is said.
-pub fn buffer(words: &mut Words, alloc: Global) -> Result<Vec<u8>, AllocError> {
-    Ok(vec![in alloc; FILL; words.number()]?)
-}
-
-// The most bytes that a value's annotations may have.
-pub fn limit(words: &mut Words) -> usize {
-    words.number_or(ANNOTATION_LIMIT)
-}
-
-// That, and the depth at which a container is not entered.
+// The most bytes that a value's annotations may have, and the depth at which a container is not entered.
 #[derive(Clone, Copy, Debug)]
 pub struct Limits {
     pub limit: usize,
@@ -54,15 +39,20 @@ pub struct Limits {
 
 impl Limits {
     pub fn of(words: &mut Words) -> Self {
-        let limit = limit(words);
+        let limit = words.number_or(ANNOTATION_LIMIT);
         let depth = words.number_or(DEPTH_LIMIT);
         Limits { limit, depth }
     }
 }
 
-pub fn system_text(words: &mut Words, alloc: Global) -> Result<Vec<u8>, AllocError> {
+// A buffer of the length that is said.
+pub fn buffer(words: &mut Words) -> Result<Vec<u8>, AllocError> {
+    Ok(vec![in words.alloc; FILL; words.number()]?)
+}
+
+pub fn system_text(words: &mut Words) -> Result<Vec<u8>, AllocError> {
     match words.word() {
-        Some(word) => hexadecimal::decode(alloc, word),
-        None => SYSTEM_TEXT.to_vec(alloc),
+        Some(word) => hexadecimal::decode(words.alloc, word),
+        None => SYSTEM_TEXT.to_vec(words.alloc),
     }
 }

@@ -34,6 +34,7 @@ pub enum Function {
 #[derive(Clone, Copy, Debug)]
 pub struct NoSuchFunction;
 
+// `Asked` of `vectors` is read the same way: they share the trait and no name, and one table looked through for both would be no plainer.
 impl FromStr for Function {
     type Err = NoSuchFunction;
 

@@ -6,6 +6,11 @@ mod arguments;
 mod calls;
 mod function;
 mod left;
+mod lending;
+mod reading_calls;
+mod step_calls;
+mod symbol_calls;
+mod write_calls;
 
 use questions::comparing;
 use std::io;

@@ -8,10 +8,10 @@ ghost use Rattle.numbers.specs.Answers.{most_bytes, var_uint, var_int, int, int_
 ghost use Rattle.numbers.specs.ShortVarUInt.{short_var_uint_of};
 ghost use Rattle.numbers.specs.Refusals.{number_of};
 ghost use Rattle.numbers.specs.Read.{refusal_read, var_uint_read, short_var_uint_read, var_int_read, int_read};
-ghost use Rattle.numbers.specs.Private.Groups.{groups, Begins};
+ghost use Rattle.numbers.specs.Private.Groups.{groups};
 
 use crate::int::Int;
-use crate::refusal::{Reason, Refusal};
+use crate::refusal::{OUTSIDE, Reason, Refusal};
 use crate::var_int::VarInt;
 use crate::var_uint::VarUInt;
 
@@ -19,6 +19,7 @@ use crate::var_uint::VarUInt;
 const MAX_ENCODED_SIZE_IN_BYTES: usize = 9;
 
 // Whether at..end is no part of the slice.
+#[tactic(auto, using(std::proofs::lemmas::Bool::Decides::nat_tests), unfolding(crate::specs::Outcome::outside_of))]
 pub fn outside(s: &[u8], at: usize, end: usize) -> bool
     ensures { result ≡ outside_of s.now at end }
 {
@@ -26,10 +27,12 @@ pub fn outside(s: &[u8], at: usize, end: usize) -> bool
 }
 
 // The refusal of a number that began at `from` and has nine bytes or more before `at`: too long where its last byte is in at..end, cut short where it is not.
+#[inline(always)]
 fn past_limit(s: &[u8], from: usize, at: usize, end: usize, cut: Reason) -> Refusal
     requires { (from + most_bytes ≤ at) × (at ≤ end) × (end ≤ length s.now) }
     ensures { (v : ℕ) → refusal_read result ≡ groups (number_of cut) v s.now from at end }
 {
+    // By positions, as the invariant has the last byte's: over the bytes it would speak of a part of the slice and its length.
     for i in at..end {
         if 128 <= s[i] {
             return Refusal {
@@ -45,9 +48,9 @@ fn past_limit(s: &[u8], from: usize, at: usize, end: usize, cut: Reason) -> Refu
 }
 
 // A number that began at `from`: what its bytes before `at` are worth is `first`, and groups of seven bits follow from
-// `at` on. `cut` is the refusal where the last byte is missing. Few numbers are so long: in its callers' place it would keep the short ones from being read in
-// place.
-#[inline(never)]
+// `at` on. `cut` is the refusal where the last byte is missing. This and what it calls stand in their callers' place: a step without a call in it needs no frame
+// on the stack.
+#[inline(always)]
 fn read_groups(
     s: &[u8],
     from: usize,
@@ -60,6 +63,7 @@ fn read_groups(
     ensures { var_uint_read result ≡ groups (number_of cut) first s.now from at end }
 {
     let mut value = first;
+    // By positions: where the number began and where it ends are told by them.
     for i in at..end {
         if MAX_ENCODED_SIZE_IN_BYTES <= i - from {
             return Err(past_limit(s, from, i, end, cut));
@@ -76,104 +80,67 @@ fn read_groups(
     })
 }
 
-// The first bytes of a VarUInt, three at most. Each of the three cases tells something: an Option of two of them would be no plainer.
-#[derive(Clone, Copy)]
-enum FirstBytes {
-    // They are all of it.
-    All(VarUInt),
-    // None of them is its last: what they are worth, and where it goes on.
-    More(VarUInt),
-    // No part of the slice is asked for.
-    Outside,
-}
-
-// Reads the first bytes of a VarUInt, three at most.
-fn read_first_bytes(s: &[u8], at: usize, end: usize) -> FirstBytes
-    ensures { Begins s.now at end result }
+// Reads a VarUInt of three bytes at most: most lengths and field IDs have no more. Byte by byte: by a loop each item took longer (docs/SPEED.md).
+pub fn short_var_uint(s: &[u8], at: usize, end: usize) -> Option<VarUInt>
+    ensures { short_var_uint_read result ≡ short_var_uint_of at (var_uint s.now at end) }
 {
-    if s.len() < end {
-        return FirstBytes::Outside;
-    }
-    if end <= at {
-        if at == end {
-            return FirstBytes::More(VarUInt { value: 0, next: at });
-        }
-        return FirstBytes::Outside;
+    if s.len() < end || end <= at {
+        return None;
     }
     let first = usize::from(s[at]);
     let after = at + 1;
     if 128 <= first {
-        return FirstBytes::All(VarUInt {
+        return Some(VarUInt {
             value: first % 128,
             next: after,
         });
     }
     if end <= after {
-        return FirstBytes::More(VarUInt {
-            value: first,
-            next: after,
-        });
+        return None;
     }
     let second = usize::from(s[after]);
     let past = after + 1;
     let two = first * 128 + second % 128;
     if 128 <= second {
-        return FirstBytes::All(VarUInt {
+        return Some(VarUInt {
             value: two,
             next: past,
         });
     }
     if end <= past {
-        return FirstBytes::More(VarUInt {
-            value: two,
-            next: past,
-        });
+        return None;
     }
     let third = usize::from(s[past]);
     let next = past + 1;
     let three = two * 128 + third % 128;
     if 128 <= third {
-        return FirstBytes::All(VarUInt { value: three, next });
+        return Some(VarUInt { value: three, next });
     }
-    FirstBytes::More(VarUInt { value: three, next })
-}
-
-// Reads a VarUInt of three bytes at most: most lengths and field IDs have no more.
-pub fn short_var_uint(s: &[u8], at: usize, end: usize) -> Option<VarUInt>
-    ensures { short_var_uint_read result ≡ short_var_uint_of at (var_uint s.now at end) }
-{
-    match read_first_bytes(s, at, end) {
-        FirstBytes::All(number) => Some(number),
-        FirstBytes::More(_) => None,
-        FirstBytes::Outside => None,
-    }
+    None
 }
 
 // Reads a VarUInt, a short one in place.
+#[inline(always)]
+#[tactic(auto, using(std::proofs::lemmas::Bool::Decides::nat_tests), unfolding(crate::specs::Answers::var_uint, crate::specs::Answers::var_number))]
 pub fn read_var_uint(s: &[u8], at: usize, end: usize) -> Result<VarUInt, Refusal>
     ensures { var_uint_read result ≡ var_uint s.now at end }
 {
-    match read_first_bytes(s, at, end) {
-        FirstBytes::All(number) => Ok(number),
-        FirstBytes::More(first) => {
-            read_groups(s, at, first.next, end, first.value, Reason::VarUIntCut)
-        }
-        FirstBytes::Outside => Err(Refusal {
-            reason: Reason::Outside,
-            position: 0,
-        }),
+    if let Some(number) = short_var_uint(s, at, end) {
+        return Ok(number);
     }
+    if outside(s, at, end) {
+        return Err(OUTSIDE);
+    }
+    read_groups(s, at, at, end, 0, Reason::VarUIntCut)
 }
 
 // Reads a VarInt.
+#[tactic(auto, using(std::proofs::lemmas::Bool::Decides::nat_tests), unfolding(crate::specs::Answers::var_int, crate::specs::Answers::var_number))]
 pub fn read_var_int(s: &[u8], at: usize, end: usize) -> Result<VarInt, Refusal>
     ensures { var_int_read result ≡ var_int s.now at end }
 {
     if outside(s, at, end) {
-        return Err(Refusal {
-            reason: Reason::Outside,
-            position: 0,
-        });
+        return Err(OUTSIDE);
     }
     if at == end {
         return Err(Refusal {
@@ -201,14 +168,12 @@ pub fn read_var_int(s: &[u8], at: usize, end: usize) -> Result<VarInt, Refusal>
 }
 
 // Reads the first `length` bytes as an Int.
+#[tactic(auto, using(std::proofs::lemmas::Bool::Decides::nat_tests), unfolding(crate::specs::Answers::int, crate::specs::Format::int_negative))]
 pub fn read_int(s: &[u8], at: usize, end: usize, length: usize) -> Result<Int, Refusal>
     ensures { int_read result ≡ int s.now at end length }
 {
     if outside(s, at, end) {
-        return Err(Refusal {
-            reason: Reason::Outside,
-            position: 0,
-        });
+        return Err(OUTSIDE);
     }
     if length == 0 {
         return Ok(Int {

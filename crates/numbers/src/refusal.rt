@@ -107,8 +107,19 @@ pub struct Refusal {
     pub position: usize,
 }
 
+// Parts and positions that are outside the slice or out of order, and a limit that is none: each entry refuses them at 0.
+pub const OUTSIDE: Refusal = Refusal {
+    reason: Reason::Outside,
+    position: 0,
+};
+
+pub const LIMIT_OUT_OF_RANGE: Refusal = Refusal {
+    reason: Reason::LimitOutOfRange,
+    position: 0,
+};
+
 impl Reason {
-    // The number that callers of other languages are given.
+    // The number that callers of other languages are given. By `as`, an enum's own way to its number: a `From` would match 43 cases.
     pub fn number(self) -> u64
         ensures { result ≡ number_of self }
     {

@@ -20,11 +20,15 @@ pub struct TypeDescriptor {
     pub kind: Kind,
 }
 
-// The kind of a byte.
+// The first byte that begins no pad.
+pub const FIRST_NO_PAD: u8 = 0x0F;
+
+// The kind of a byte. By comparisons, in the order of the bytes: a match on ranges would say each bound twice.
+#[tactic(auto, using(std::proofs::lemmas::Bool::Decides::nat_tests), unfolding(crate::specs::Descriptor::kind_of))]
 fn kind_of(byte: u8) -> Kind
     ensures { result ≡ kind_of (byte / 16) (byte % 16) }
 {
-    if byte < 0x0F {
+    if byte < FIRST_NO_PAD {
         return Kind::Pad;
     }
     if byte < 0xE0 {
@@ -43,7 +47,7 @@ fn kind_of(byte: u8) -> Kind
 }
 
 impl TypeDescriptor {
-    // The descriptor that a byte stands for.
+    // The descriptor that a byte stands for: ion-rust's name for it, and no `From`.
     pub fn from_byte(byte: u8) -> Self
         ensures { result ≡ descriptor_of byte }
     {

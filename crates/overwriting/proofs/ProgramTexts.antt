@@ -29,43 +29,35 @@ use Rattle.symbols.proofs.symbols.text_of.Symbol as texting-symbol
 use Rattle.symbols.proofs.symbols.text_of.Met as texting-met
 use Rattle.runs.proofs.Machine as machine
 use Rattle.runs.proofs.Machine.{Answered}
-use Rattle.runs.proofs.Values.{num, field, choose, read_result, read_option, refusal_back}
-use Rattle.runs.proofs.Results.{one, other, differ, made, made_read, known}
+use Rattle.runs.proofs.Values.{num, field, choose, read_result, read_option, refusal_back, one_by}
+use Rattle.runs.proofs.Entries.{read_span, span}
+use Rattle.runs.proofs.Results.{told_by}
 use Rattle.overwriting.specs.ProgramTexts.{list_lowers, text_lowers, HasLookups, Lists, Texts, ProgramTextsStay}
 use Rattle.overwriting.proofs.TextsStay.{texts-stay}
 
 -- ---- the list
-
-read_span : Val → Span
-read_span v = record { start = num (field 0 v); end = num (field 1 v) }
 
 read_list : Val → Result (Option Span) Refusal
 read_list = read_result (read_option read_span)
 
 module _ (κs : Lfts 2) where
   list_back : (x : Result (Option Span) Refusal) → read_list ((list_lowers κs).lowered x) ≡ x
-  unfolding read_span read_list
+  unfolding read_list
   list_back (Ok (Some b)) = refl
   list_back (Ok None) = refl
   list_back (Err e) = ap Err (refusal_back e)
-
-  list_one : (x y : Result (Option Span) Refusal) → (list_lowers κs).lowered x ≡ (list_lowers κs).lowered y → x ≡ y
-  list_one x y e = sym (list_back x) ∙ ap read_list e ∙ list_back y
-
-span : ℕ → ℕ → Span
-span a b = record { start = a; end = b }
 
 own_of : Own → Option Span
 own_of no_list = None
 own_of (listed a b) = Some (span a b)
 
 own_told : (o : Own) → own_read (own_of o) ≡ o
-unfolding span own_of
+unfolding own_of
 own_told no_list = refl
 own_told (listed a b) = refl
 
 own_back : (b : Option Span) → own_of (own_read b) ≡ b
-unfolding span own_of
+unfolding own_of
 own_back None = refl
 own_back (Some b) = refl
 
@@ -76,7 +68,7 @@ read_text v =
     choose (num (field 0 v)) (Unknown ∷ OwnText (read_span (field 1 v)) ∷ []) (System (read_span (field 1 v)))
 
 text_back : (x : SymbolText) → read_text (text-laws.lowered x) ≡ x
-unfolding read_span read_text
+unfolding read_text
 text_back Unknown = refl
 text_back (OwnText b) = refl
 text_back (System b) = refl
@@ -86,22 +78,19 @@ module _ (κs : Lfts 2) where
   texting_back (Ok x) = ap Ok (text_back x)
   texting_back (Err e) = ap Err (refusal_back e)
 
-  text_one : (x y : Result SymbolText Refusal) → (text_lowers κs).lowered x ≡ (text_lowers κs).lowered y → x ≡ y
-  text_one x y e = sym (texting_back x) ∙ ap (read_result read_text) e ∙ texting_back y
-
 text-of : Text → SymbolText
 text-of unknown = Unknown
 text-of (own a b) = OwnText (span a b)
 text-of (system a b) = System (span a b)
 
 text_is : (x : Text) → text_told (text-of x) ≡ x
-unfolding span text-of
+unfolding text-of
 text_is unknown = refl
 text_is (own a b) = refl
 text_is (system a b) = refl
 
 text-back : (x : SymbolText) → text-of (text_told x) ≡ x
-unfolding span text-of
+unfolding text-of
 text-back Unknown = refl
 text-back (OwnText b) = refl
 text-back (System b) = refl
@@ -111,15 +100,13 @@ module _ {M : Type 1} {𝓤 : Ura M} (𝓛 : Logic 𝓤) (𝓜 : Model 𝓤 𝓛
 
   list_answers : (limit : ℕ) (s lent : Bor (List ℕ)) (lo hi place : ℕ) → Answered 𝓛 𝓜 listing.signature (𝓡.env listing-symbol.name) κs tt (list_lowers κs) (s, (lent, (lo, (hi, (place, (limit, tt)))))) (λ x. symbols_read x ≡ symbols_at limit s.now lent.now lo hi place)
   list_answers limit s lent lo hi place =
-      machine.answered 𝓛 𝓜 𝓡 listing.ended (𝓡.env listing-symbol.name) (listing.clauses 𝓛 𝓜.mem 𝓡.returns) (listing-met.met 𝓤 𝓛 𝓜 (strict 𝓤 H 𝓜 𝓡) has.list) κs tt (list_lowers κs) symbols_read (made own_read own_of own_told own_back) (made_read own_read own_of own_told own_back) (list_one κs) (Err one) (Err other) differ
+      machine.answered 𝓛 𝓜 𝓡 listing.ended (𝓡.env listing-symbol.name) (listing.clauses 𝓛 𝓜.mem 𝓡.returns) (listing-met.met 𝓤 𝓛 𝓜 (strict 𝓤 H 𝓜 𝓡) has.list) κs tt (list_lowers κs) (told_by own_read own_of own_told own_back) (one_by (list_lowers κs).lowered read_list (list_back κs))
       (s, (lent, (lo, (hi, (place, (limit, tt)))))) tt (symbols_at limit s.now lent.now lo hi place) (id⊢ 𝓤 (emp 𝓤)) (λ x ws. id⊢ 𝓤 (fact 𝓤 (symbols_read x ≡ symbols_at limit s.now lent.now lo hi place)))
-      (known own_read own_of own_told own_back (symbols_at limit s.now lent.now lo hi place))
 
   text_answers : (limit : ℕ) (s lent : Bor (List ℕ)) (lo hi place id : ℕ) → Answered 𝓛 𝓜 texting.signature (𝓡.env texting-symbol.name) κs tt (text_lowers κs) (s, (lent, (lo, (hi, (place, (id, (limit, tt))))))) (λ x. text_read x ≡ text_of limit s.now lent.now lo hi place id)
   text_answers limit s lent lo hi place id =
-      machine.answered 𝓛 𝓜 𝓡 texting.ended (𝓡.env texting-symbol.name) (texting.clauses 𝓛 𝓜.mem 𝓡.returns) (texting-met.met 𝓤 𝓛 𝓜 (strict 𝓤 H 𝓜 𝓡) has.text) κs tt (text_lowers κs) text_read (made text_told text-of text_is text-back) (made_read text_told text-of text_is text-back) (text_one κs) (Err one) (Err other) differ
+      machine.answered 𝓛 𝓜 𝓡 texting.ended (𝓡.env texting-symbol.name) (texting.clauses 𝓛 𝓜.mem 𝓡.returns) (texting-met.met 𝓤 𝓛 𝓜 (strict 𝓤 H 𝓜 𝓡) has.text) κs tt (text_lowers κs) (told_by text_told text-of text_is text-back) (one_by (text_lowers κs).lowered (read_result read_text) (texting_back κs))
       (s, (lent, (lo, (hi, (place, (id, (limit, tt))))))) tt (text_of limit s.now lent.now lo hi place id) (id⊢ 𝓤 (emp 𝓤)) (λ x ws. id⊢ 𝓤 (fact 𝓤 (text_read x ≡ text_of limit s.now lent.now lo hi place id)))
-      (known text_told text-of text_is text-back (text_of limit s.now lent.now lo hi place id))
 
   list_by : (limit : ℕ) (s lent : Bor (List ℕ)) (lo hi place : ℕ) (o : Outcome Own) → Lists 𝓛 𝓜 𝓡.env κs limit s lent lo hi place o → o ≡ symbols_at limit s.now lent.now lo hi place
   list_by limit s lent lo hi place o p = sym p.2 ∙ (list_answers limit s lent lo hi place).returned p.0 p.1

@@ -438,7 +438,7 @@ parts_alike limit s p ranged (suc k) rules room hi at hi' at' k' c d fits f l e 
     let r = steps-sound limit rules s (cursor at hi) in
     let n : ℕ = length (found limit rules s (cursor at hi)).pads in
     ap (part_check limit k' p rules room hi' at') (sym (zeroed_pads n c))
-    ∙ stands_alike limit s p ranged k (parts_alike limit s p ranged k) room hi hi' at' k' (counting pads n c) d fits r.2 (packs limit s (suc k) rules hi at fits).lawful f l e
+    ∙ stands_alike limit s p ranged k (parts_alike limit s p ranged k) room hi hi' at' k' (counting pads n c) d fits r.2 (packs limit s (suc k) rules hi at).lawful f l e
 
 pub packed-accepted : PackedAccepted
 unfolding whole_check packed tree_of

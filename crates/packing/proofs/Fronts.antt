@@ -1,6 +1,6 @@
 -- What is written of a value is what goes before its body, and the body.
 -- Assumes nothing.
-use Prim.Native.Nat.{ℕ, ◌+◌, ◌-◌, ◌≤◌, ◌<◌}
+use Prim.Native.Nat.{ℕ, ◌+◌}
 use native.Mathlib.Omega.{arith}
 use mathlib.Core.Path.{◌≡◌, ◌∙◌, sym, ap}
 use mathlib.Core.List.{List, [], ◌++◌, append_assoc}
@@ -15,14 +15,15 @@ use Rattle.encoding.proofs.VarUInts.{bytes_size}
 use Rattle.encoding.proofs.Heads.{head_length}
 use Rattle.encoding.proofs.Stores.{sets_more}
 use Rattle.numbers.specs.Bytes.{part}
-use Rattle.numbers.proofs.Parts.{part_length}
-use Rattle.framing.specs.Spans.{Spans}
-use Rattle.packing.specs.Tree.{Head, kept_byte, header_of, wrapping, written}
+use Rattle.framing.specs.Read.{spans_of}
+use Rattle.packing.specs.Tree.{Head, header_of, wrapping, written}
 use Rattle.packing.specs.Packed.{head_of}
-use Rattle.packing.specs.Private.Items.{body_bytes, value_bytes, HandedOut}
-use Rattle.packing.specs.Private.Sizes.{header_size, wrapped_size, wrap_size, value_size}
+use Rattle.packing.specs.Private.Bytes.{value_bytes}
+use Rattle.packing.specs.Private.Items.{entry_body, entry_bytes, entry_front}
+use Rattle.packing.specs.declared.part.Entry.{Entry}
+use Rattle.packing.specs.Private.Sizes.{header_size, wrapped_size, wrap_size}
 use Rattle.packing.specs.Private.Fronts.{wrap_front, front_of}
-use Rattle.packing.proofs.Sizes.{header_length, value-length, wrapped-size, wrap_some}
+use Rattle.packing.proofs.Sizes.{value-length, wrapped-size, wrap_some}
 
 inner : (a v : List ℕ) → wrapped_bytes a v ≡ (var_uint_bytes (length a) ++ a) ++ v
 unfolding wrapped_bytes
@@ -47,7 +48,7 @@ written_split h body =
     ap (λ (l : List ℕ). h.name ++ l) (wrap_split h.annotations (header ++ body) ∙ ap (λ (n : ℕ). wrap_front h.annotations n ++ (header ++ body)) (value-length h.byte body) ∙ sym (append_assoc front header body))
     ∙ sym (append_assoc h.name (front ++ header) body)
 
--- their sizes
+-- its size
 pub wrap_front_length : (annotations : List ℕ) (n : ℕ) → length (wrap_front annotations n) + n ≡ wrap_size (length annotations) n
 unfolding wrap_front wrap_size wrapped_size
 wrap_front_length annotations n =
@@ -55,62 +56,33 @@ wrap_front_length annotations n =
     rw (e, length-append (head_bytes 14 (var_uint_size (length annotations) + (length annotations + n))) (var_uint_bytes (length annotations) ++ annotations), head_length 14 (var_uint_size (length annotations) + (length annotations + n)), length-append (var_uint_bytes (length annotations)) annotations, bytes_size (length annotations))
     (omega arith))
 
-pub front_length : (h : Head) (n : ℕ) → length (front_of h n) + n ≡ value_size (length h.name) (length h.annotations) h.byte n
-unfolding front_of value_size
-front_length h n =
-    let front : List ℕ = wrap_front h.annotations (header_size h.byte n + n) in
-    omega (arith, length-append h.name (front ++ header_of h.byte n), length-append front (header_of h.byte n), header_length h.byte n, wrap_front_length h.annotations (header_size h.byte n + n))
+-- ---- what is put, one behind the other
+
+pub ruleset puts = (sets_more, length-append)
 
 -- a wrapper's size, its sums written out
-pub wrap_summed : (m n : ℕ) → 0 < m → wrap_size m n ≡ head_size (var_uint_size m + (m + n)) + (var_uint_size m + (m + n))
+pub wrap_summed : (m n : ℕ) → (m ≡ 0 → ⊥) → wrap_size m n ≡ head_size (var_uint_size m + (m + n)) + (var_uint_size m + (m + n))
 unfolding wrapped_size
-wrap_summed m n h = wrap_some m n h
-
--- ---- stores, one behind the other
+wrap_summed m n h = wrap_some m n (omega arith)
 
 pub front_none : (annotations : List ℕ) (n : ℕ) → length annotations ≡ 0 → wrap_front annotations n ≡ []
 unfolding wrap_front
 front_none annotations n e = rw e
 
-pub wrap_stored : (out a : List ℕ) (to after start m n : ℕ) → length a ≡ m → 0 < m → after ≡ to + head_size (var_uint_size m + (m + n)) → start ≡ after + var_uint_size m → sets (sets (sets out to (head_bytes 14 (var_uint_size m + (m + n)))) after (var_uint_bytes m)) start a ≡ sets out to (wrap_front a n)
+pub front_some : (annotations : List ℕ) (n : ℕ) → (length annotations ≡ 0 → ⊥) → wrap_front annotations n ≡ head_bytes 14 (var_uint_size (length annotations) + (length annotations + n)) ++ (var_uint_bytes (length annotations) ++ annotations)
 unfolding wrap_front wrapped_size
-wrap_stored out a to after start m n l h p q =
-    let head : List ℕ = head_bytes 14 (var_uint_size m + (m + n)) in
-    let p' : after ≡ to + length head = p ∙ ap (λ (x : ℕ). to + x) (sym (head_length 14 (var_uint_size m + (m + n)))) in
-    let q' : start ≡ after + length (var_uint_bytes m) = q ∙ ap (λ (x : ℕ). after + x) (sym (bytes_size m)) in
-    ap (λ (x : ℕ). sets (sets (sets out to head) after (var_uint_bytes m)) x a) q'
-    ∙ sym (sets_more (sets out to head) after (var_uint_bytes m) a)
-    ∙ ap (λ (x : ℕ). sets (sets out to head) x (var_uint_bytes m ++ a)) p'
-    ∙ sym (sets_more out to head (var_uint_bytes m ++ a))
-    ∙ rw (l, ne_eqb m 0 (λ e. omega arith))
+front_some annotations n h = rw (ne_eqb (length annotations) 0 h)
 
-pub front_stored : (out : List ℕ) (to named wrapped : ℕ) (h : Head) (n : ℕ) → named ≡ to + length h.name → wrapped + (header_size h.byte n + n) ≡ named + wrap_size (length h.annotations) (header_size h.byte n + n) → sets (sets (sets out to h.name) named (wrap_front h.annotations (header_size h.byte n + n))) wrapped (header_of h.byte n) ≡ sets out to (front_of h n)
-unfolding front_of
-front_stored out to named wrapped h n p q =
-    let front : List ℕ = wrap_front h.annotations (header_size h.byte n + n) in
-    let header : List ℕ = header_of h.byte n in
-    let q' : wrapped ≡ named + length front = omega (arith, wrap_front_length h.annotations (header_size h.byte n + n)) in
-    ap (λ (x : ℕ). sets (sets (sets out to h.name) named front) x header) q'
-    ∙ sym (sets_more (sets out to h.name) named front header)
-    ∙ ap (λ (x : ℕ). sets (sets out to h.name) x (front ++ header)) p
-    ∙ sym (sets_more out to h.name (front ++ header))
-
-pub body_stored : (out : List ℕ) (to b : ℕ) (h : Head) (body : List ℕ) → b + length body ≡ to + value_size (length h.name) (length h.annotations) h.byte (length body) → sets (sets out to (front_of h (length body))) b body ≡ sets out to (written h body)
-body_stored out to b h body e =
-    let b' : b ≡ to + length (front_of h (length body)) = omega (arith, front_length h (length body)) in
-    ap (λ (x : ℕ). sets (sets out to (front_of h (length body))) x body) b'
-    ∙ sym (sets_more out to (front_of h (length body)) body)
-    ∙ ap (sets out to) (sym (written_split h body))
-
--- of a value by its places: its body, and its body's size, known
-pub value_stored : {limit : ℕ} {s : List ℕ} {at hi from : ℕ} {v : Spans} → HandedOut limit s at hi from v → (out : List ℕ) (to b n : ℕ) (body : List ℕ) → n ≡ length body → body ≡ body_bytes limit s v → b + n ≡ to + value_size (v.start - from) (v.descriptor - v.annotations) (kept_byte v.byte n) n → sets (sets out to (front_of (head_of s (part s from v.start) v n) n)) b body ≡ sets out to (value_bytes limit s from v)
+entry_split : (x : Entry) (n : ℕ) → n ≡ length (entry_body x) → entry_front x n ++ entry_body x ≡ entry_bytes x
 unfolding value_bytes
-value_stored {limit} {s} {at} {hi} {from} {v} h out to b n body e f g =
-    let p = h.placed in
-    let ends : v.end ≤ length s = omega (arith, p.within, p.inside) in
-    let i : length (part s from v.start) ≡ v.start - from = part_length s from v.start (omega (arith, p.started, p.annotated, p.bodied, p.ended)) in
-    let m : length (part s v.annotations v.descriptor) ≡ v.descriptor - v.annotations = part_length s v.annotations v.descriptor (omega (arith, p.bodied, p.ended)) in
-    let g' : b + length body ≡ to + value_size (length (part s from v.start)) (length (part s v.annotations v.descriptor)) (kept_byte v.byte (length body)) (length body) = rw (← e, i, m) g in
-    ap (λ (x : ℕ). sets (sets out to (front_of (head_of s (part s from v.start) v x) x)) b body) e
-    ∙ body_stored out to b (head_of s (part s from v.start) v (length body)) body g'
-    ∙ ap (λ (l : List ℕ). sets out to (written (head_of s (part s from v.start) v (length l)) l)) f
+entry_split x n e =
+    let h : ℕ → Head = head_of x.s.now (part x.s.now x.from x.value.start) (spans_of x.value) in
+    ap (λ (k : ℕ). front_of (h k) k ++ entry_body x) e ∙ sym (written_split (h (length (entry_body x))) (entry_body x))
+
+pub entry_length : (x : Entry) (n : ℕ) → n ≡ length (entry_body x) → length (entry_front x n) + n ≡ length (entry_bytes x)
+entry_length x n e =
+    omega (arith, length-append (entry_front x n) (entry_body x), ap length (entry_split x n e))
+
+pub entry_stored : (x : Entry) (n : ℕ) (out : List ℕ) (to : ℕ) → n ≡ length (entry_body x) → sets (sets out to (entry_front x n)) (to + length (entry_front x n)) (entry_body x) ≡ sets out to (entry_bytes x)
+entry_stored x n out to e =
+    sym (sets_more out to (entry_front x n) (entry_body x)) ∙ ap (sets out to) (entry_split x n e)

@@ -113,7 +113,7 @@ is_holding v = refl
 adds : (i x rest at z from end hi : ℕ) → i ≡ from - z → x ≤ end - from → rest ≤ hi - end → at ≤ z → z ≤ from → from ≤ end → end ≤ hi → i + x + rest ≤ hi - at
 adds i x rest at z from end hi p q r a b c d = omega arith
 
-module _ (limit : ℕ) (s : List ℕ) (rules : Rules) (at hi : ℕ) (P : Rules → ℕ → ℕ → Tree) (O : ℕ → Tree) (within : (r : Rules) (e b : ℕ) → b ≤ e → e ≤ length s → Packs limit r e b (P r e b)) (onward : (e : ℕ) → e ≤ hi → Packs limit rules hi e (O e)) where
+module _ (limit : ℕ) (s : List ℕ) (rules : Rules) (at hi : ℕ) (P : Rules → ℕ → ℕ → Tree) (O : ℕ → Tree) (within : (r : Rules) (e b : ℕ) → Packs limit r e b (P r e b)) (onward : (e : ℕ) → Packs limit rules hi e (O e)) where
   -- a value whose name stands at z..from
   node_packs : {z from : ℕ} {v : Spans} (name : List ℕ) → Named rules name → length name ≡ from - z → at ≤ z → z ≤ from → (b : ValueBytes s from hi v) → Within limit b → Packs limit rules hi at (node_of s name v (P (body_rules v) v.end v.body) (O v.end))
   unfolding node_of value_size
@@ -122,7 +122,7 @@ module _ (limit : ℕ) (s : List ℕ) (rules : Rules) (at hi : ℕ) (P : Rules �
       (λ c.
       let inside : Tree = P (body_rules v) v.end v.body in
       let n : ℕ = length (bytes_of inside) in
-      let k : Packs limit (body_rules v) v.end v.body inside = within (body_rules v) v.end v.body (bodied b) (omega (arith, ends.0, ends.1)) in
+      let k : Packs limit (body_rules v) v.end v.body inside = within (body_rules v) v.end v.body in
       let r : Repacked limit from v n = repacked n k.short (λ e. absurd (true≢false (sym c ∙ e))) (λ _ t. not_one (subst (λ (x : Rules). Lawful limit x inside) (fields t) k.lawful)) b w in
       let h : Head = head_of s name v n in
       let l : length (written h (bytes_of inside)) ≡ value_size (length name) m (kept_byte v.byte n) n = lengthened (bytes_of inside) r in
@@ -148,15 +148,11 @@ module _ (limit : ℕ) (s : List ℕ) (rules : Rules) (at hi : ℕ) (P : Rules �
       ends : (v.end ≤ hi) × (hi ≤ length s)
       ends = value_ends b
 
-      bodied : {a : ℕ} → ValueBytes s a hi v → v.body ≤ v.end
-      bodied (plain t) = t.order
-      bodied (annotated w) = omega (arith, w.value.order, w.body, w.ends)
-
       fields : v.byte / 16 ≡ 13 → body_rules v ≡ Fields
       fields t = rw t
 
       behind : Packs limit rules hi v.end (O v.end)
-      behind = onward v.end ends.0
+      behind = onward v.end
 
       many : {n : ℕ} → Repacked limit from v n → length (part s v.annotations v.descriptor) ≡ m
       many r = part_length s v.annotations v.descriptor (omega (arith, r.bodied, r.ended, ends.0, ends.1))
@@ -178,15 +174,15 @@ module _ (limit : ℕ) (s : List ℕ) (rules : Rules) (at hi : ℕ) (P : Rules �
 
 -- ---- the whole part
 
-abbrev Within-all : ℕ → List ℕ → (Rules → ℕ → ℕ → Tree) → Type 0
-Within-all limit s P = (r : Rules) (e b : ℕ) → b ≤ e → e ≤ length s → Packs limit r e b (P r e b)
+abbrev Within-all : ℕ → (Rules → ℕ → ℕ → Tree) → Type 0
+Within-all limit P = (r : Rules) (e b : ℕ) → Packs limit r e b (P r e b)
 
 abbrev Onward-all : ℕ → Rules → ℕ → (ℕ → Tree) → Type 0
-Onward-all limit rules hi O = (e : ℕ) → e ≤ hi → Packs limit rules hi e (O e)
+Onward-all limit rules hi O = (e : ℕ) → Packs limit rules hi e (O e)
 
-item_packs : (limit : ℕ) (s : List ℕ) (at hi : ℕ) (P : Rules → ℕ → ℕ → Tree) (O : ℕ → Tree) {rules : Rules} {z : ℕ} {x : Item} → Within-all limit s P → Onward-all limit rules hi O → at ≤ z → (t : ItemAt s hi rules z x) → ItemWithin limit t → Packs limit rules hi at (tree_on s P O (gives x))
+item_packs : (limit : ℕ) (s : List ℕ) (at hi : ℕ) (P : Rules → ℕ → ℕ → Tree) (O : ℕ → Tree) {rules : Rules} {z : ℕ} {x : Item} → Within-all limit P → Onward-all limit rules hi O → at ≤ z → (t : ItemAt s hi rules z x) → ItemWithin limit t → Packs limit rules hi at (tree_on s P O (gives x))
 item_packs limit s at hi P O within onward low (marker-at {a} e0 major minor ea fits inside) w =
-    let k : Packs limit Stream hi (a + 4) (O (a + 4)) = onward (a + 4) fits in
+    let k : Packs limit Stream hi (a + 4) (O (a + 4)) = onward (a + 4) in
     record { lawful = marked k.lawful; short = omega (arith, mark_length 1 0 (O (a + 4)), k.short) }
 item_packs limit s at hi P O within onward low (value_in_stream {a} {v} b) w =
     node_packs limit s Stream at hi P O within onward {z = a} {from = a} [] in_stream_none (omega arith) low (omega arith) b w
@@ -202,16 +198,16 @@ item_packs limit s at hi P O within onward low (field-at {a} {n} {v} id b) w =
     starts (plain t) = t.start
     starts (annotated w) = w.start
 
-stands_packs : (limit : ℕ) (s : List ℕ) (at hi : ℕ) (P : Rules → ℕ → ℕ → Tree) (O : ℕ → Tree) {rules : Rules} {z : ℕ} {o : Outcome Item} → Within-all limit s P → Onward-all limit rules hi O → at ≤ z → Stands limit rules s hi z o → Packs limit rules hi at (tree_on s P O o)
+stands_packs : (limit : ℕ) (s : List ℕ) (at hi : ℕ) (P : Rules → ℕ → ℕ → Tree) (O : ℕ → Tree) {rules : Rules} {z : ℕ} {o : Outcome Item} → Within-all limit P → Onward-all limit rules hi O → at ≤ z → Stands limit rules s hi z o → Packs limit rules hi at (tree_on s P O o)
 stands_packs limit s at hi P O within onward low (the_end e) = no_packs
 stands_packs limit s at hi P O within onward low (the_item t w) = item_packs limit s at hi P O within onward low t w
 stands_packs limit s at hi P O within onward low (refused_there a b c) = no_packs
 stands_packs limit s at hi P O within onward low (no_part a) = no_packs
 stands_packs limit s at hi P O within onward low (no_limit a) = no_packs
 
-pub packs : (limit : ℕ) (s : List ℕ) (k : ℕ) (rules : Rules) (hi at : ℕ) → hi ≤ length s → Packs limit rules hi at (tree_in limit k s rules hi at)
+pub packs : (limit : ℕ) (s : List ℕ) (k : ℕ) (rules : Rules) (hi at : ℕ) → Packs limit rules hi at (tree_in limit k s rules hi at)
 unfolding tree_in step_of
-packs limit s zero rules hi at m = no_packs
-packs limit s (suc k) rules hi at m =
+packs limit s zero rules hi at = no_packs
+packs limit s (suc k) rules hi at =
     let f = steps-sound limit rules s (cursor at hi) in
-    stands_packs limit s at hi (tree_in limit k s) (tree_in limit k s rules hi) (λ r e b l n. packs limit s k r e b n) (λ e l. packs limit s k rules hi e m) (skips_on f.1) f.2
+    stands_packs limit s at hi (tree_in limit k s) (tree_in limit k s rules hi) (packs limit s k) (packs limit s k rules hi) (skips_on f.1) f.2

@@ -8,6 +8,7 @@ pub mod ReadBack
 pub mod Twice
 pub mod Places
 pub mod Unrolled
+pub mod Entries
 pub mod Fronts
 pub mod Buffers
 pub mod Accepted

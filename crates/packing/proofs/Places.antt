@@ -1,11 +1,11 @@
 -- Where what a step answers lies, and that what is packed of it is no longer.
 -- Assumes nothing.
-use Prim.Native.Nat.{ℕ, ◌+◌, ◌-◌, ◌/◌, ◌≤◌}
+use Prim.Native.Nat.{ℕ, ◌+◌, ◌-◌, ◌/◌, ◌≤◌, ◌<◌}
 use native.Mathlib.Omega.{arith}
 use mathlib.Core.Path.{◌≡◌, ◌∙◌, sym, ap, subst}
 use mathlib.Core.Bool.{true, false}
 use mathlib.Core.List.{List}
-use lib.ListN.{length}
+use lib.ListN.{length, length-append}
 use Rattle.numbers.specs.Outcome.{Outcome, gives}
 use Rattle.numbers.specs.Bytes.{part}
 use Rattle.numbers.proofs.Outcomes.{by_test}
@@ -25,25 +25,39 @@ use Rattle.values.specs.Scalars.{is_container, body_rules}
 use Rattle.packing.specs.Tree.{kept_byte}
 use Rattle.packing.specs.Packed.{head_of}
 use Rattle.packing.specs.Private.Sizes.{header_size, wrap_size, value_size}
-use Rattle.packing.specs.Private.Items.{tree_at, bytes_at, body_bytes, value_bytes, HandedOut}
+use Rattle.packing.specs.Private.Bytes.{tree_at, bytes_at, body_bytes, value_bytes}
 use Rattle.packing.proofs.Sizes.{written_length}
 use Rattle.packing.proofs.Values.{Repacked, repacked}
 use Rattle.packing.proofs.Lawful.{Lawful, Packs, packs, skips_on, not_one, value_ends}
 
+-- a value that a step hands out at `at` in the part that ends at hi, and that begins, with its field ID, at `from`: packed it is no longer than it is
+pub record HandedOut (limit : ℕ) (s : List ℕ) (at hi from : ℕ) (v : Spans) : Type 0 where
+  pub low : at ≤ from
+  pub named : from ≤ v.start
+  pub started : v.start ≤ v.annotations
+  pub annotated : v.annotations ≤ v.descriptor
+  pub bodied : v.descriptor < v.body
+  pub ended : v.body ≤ v.end
+  pub within : v.end ≤ hi
+  pub in_map : v.end ≤ length s
+  pub short : length (value_bytes limit s from v) ≤ v.end - from
+
 -- ---- sizes
 
 -- a part is no longer once it is packed
-pub part_packs : (limit : ℕ) (s : List ℕ) (rules : Rules) (hi at : ℕ) → hi ≤ length s → Packs limit rules hi at (tree_at limit s rules hi at)
+pub part_packs : (limit : ℕ) (s : List ℕ) (rules : Rules) (hi at : ℕ) → Packs limit rules hi at (tree_at limit s rules hi at)
 unfolding tree_at
-part_packs limit s rules hi at h = packs limit s (hi - at) rules hi at h
+part_packs limit s rules hi at = packs limit s (hi - at) rules hi at
 
-pub part_short : (limit : ℕ) (s : List ℕ) (rules : Rules) (hi at : ℕ) → hi ≤ length s → length (bytes_at limit s rules hi at) ≤ hi - at
+pub part_short : (limit : ℕ) (s : List ℕ) (rules : Rules) (hi at : ℕ) → length (bytes_at limit s rules hi at) ≤ hi - at
 unfolding bytes_at
-part_short limit s rules hi at h = (part_packs limit s rules hi at h).short
+part_short limit s rules hi at = (part_packs limit s rules hi at).short
 
-module _ (limit : ℕ) (s : List ℕ) (v : Spans) (h : v.end ≤ length s) where
+pub ruleset part_sizes = (part_short, length-append)
+
+module _ (limit : ℕ) (s : List ℕ) (v : Spans) where
   -- a container's body and a scalar's
-  held_body : is_container v ≡ true → body_bytes limit s v ≡ bytes_at limit s (body_rules v) v.end v.body
+  pub held_body : is_container v ≡ true → body_bytes limit s v ≡ bytes_at limit s (body_rules v) v.end v.body
   unfolding body_bytes
   held_body c = rw c
 
@@ -51,20 +65,21 @@ module _ (limit : ℕ) (s : List ℕ) (v : Spans) (h : v.end ≤ length s) where
   unfolding body_bytes
   scalar_body c = rw c
 
-  pub scalar_size : is_container v ≡ false → length (body_bytes limit s v) ≡ v.end - v.body
-  scalar_size c = ap length (scalar_body c) ∙ part_length s v.body v.end h
+module _ (limit : ℕ) (s : List ℕ) (v : Spans) (h : v.end ≤ length s) where
+  scalar_size : is_container v ≡ false → length (body_bytes limit s v) ≡ v.end - v.body
+  scalar_size c = ap length (scalar_body limit s v c) ∙ part_length s v.body v.end h
 
   body_short : length (body_bytes limit s v) ≤ v.end - v.body
   unfolding body_bytes
   body_short =
-      by_test (λ (l : List ℕ). length l ≤ v.end - v.body) (is_container v) (λ c. part_short limit s (body_rules v) v.end v.body h)
+      by_test (λ (l : List ℕ). length l ≤ v.end - v.body) (is_container v) (λ c. part_short limit s (body_rules v) v.end v.body)
       (λ c. omega (arith, part_length s v.body v.end h))
 
   body_not_one : is_container v ≡ true → v.byte / 16 ≡ 13 → length (body_bytes limit s v) ≡ 1 → ⊥
   unfolding bytes_at
   body_not_one c t e =
-      not_one (subst (λ (x : Rules). Lawful limit x (tree_at limit s (body_rules v) v.end v.body)) (fields t) (part_packs limit s (body_rules v) v.end v.body h).lawful)
-      (ap length (sym (held_body c)) ∙ e)
+      not_one (subst (λ (x : Rules). Lawful limit x (tree_at limit s (body_rules v) v.end v.body)) (fields t) (part_packs limit s (body_rules v) v.end v.body).lawful)
+      (ap length (sym (held_body limit s v c)) ∙ e)
     where
       fields : v.byte / 16 ≡ 13 → body_rules v ≡ Fields
       fields t = rw t
@@ -89,53 +104,19 @@ module _ (limit : ℕ) (s : List ℕ) (v : Spans) (h : v.end ≤ length s) where
       let q = value_sized from (omega (arith, r.start, r.near, r.order, r.bodied, r.ended)) (omega (arith, r.bodied, r.ended)) in
       let x : ℕ = wrap_size (v.descriptor - v.annotations) (header_size (kept_byte v.byte n) n + n) in
       record {
-        placed = record {
-          low = low;
-          named = omega (arith, r.start);
-          started = omega (arith, r.start, r.near);
-          annotated = r.order;
-          bodied = r.bodied;
-          ended = r.ended;
-          within = e.0;
-          inside = e.1;
-        };
+        low = low;
+        named = omega (arith, r.start);
+        started = omega (arith, r.start, r.near);
+        annotated = r.order;
+        bodied = r.bodied;
+        ended = r.ended;
+        within = e.0;
+        in_map = h;
         short = adds (length (value_bytes limit s from v)) v.start from x v.end a q r.size r.start named (omega (arith, r.near, r.order, r.bodied, r.ended));
       }
     where
       adds : (l start from x end a : ℕ) → l ≡ start - from + x → x ≤ end - a → start ≡ a → from ≤ a → a ≤ end → l ≤ end - from
       adds l start from x end a p q r c d = omega arith
-
--- a container's part, packed, is its body
-pub part_bytes : (limit : ℕ) (s : List ℕ) (v : Spans) (rules : Rules) → v.end ≤ length s → is_container v ≡ true → rules ≡ body_rules v → bytes_at limit s rules v.end v.body ≡ body_bytes limit s v
-part_bytes limit s v rules w i r = ap (λ (x : Rules). bytes_at limit s x v.end v.body) r ∙ sym (held_body limit s v w i)
-
-pub held : (limit : ℕ) (s : List ℕ) (v : Spans) (rules : Rules) (n : ℕ) → v.end ≤ length s → is_container v ≡ true → rules ≡ body_rules v → n ≡ length (bytes_at limit s rules v.end v.body) → n ≡ length (body_bytes limit s v)
-held limit s v rules n w i r e = e ∙ ap length (part_bytes limit s v rules w i r)
-
--- by itself, wherever it was met
-pub handed_alone : {limit : ℕ} {s : List ℕ} {at hi from : ℕ} {v : Spans} → HandedOut limit s at hi from v → HandedOut limit s from (length s) from v
-handed_alone h =
-    let p = h.placed in
-    record {
-      placed = record {
-        low = omega arith;
-        named = p.named;
-        started = p.started;
-        annotated = p.annotated;
-        bodied = p.bodied;
-        ended = p.ended;
-        within = omega (arith, p.within, p.inside);
-        inside = omega arith;
-      };
-      short = h.short;
-    }
-
--- its size, where its body's is known
-pub sized-by : {limit : ℕ} {s : List ℕ} {at hi from : ℕ} {v : Spans} → HandedOut limit s at hi from v → (n : ℕ) → n ≡ length (body_bytes limit s v) → value_size (v.start - from) (v.descriptor - v.annotations) (kept_byte v.byte n) n ≡ length (value_bytes limit s from v)
-sized-by {limit} {s} {at} {hi} {from} {v} h n e =
-    let p = h.placed in
-    ap (λ (x : ℕ). value_size (v.start - from) (v.descriptor - v.annotations) (kept_byte v.byte x) x) e
-    ∙ sym (value_sized limit s v (omega (arith, p.within, p.inside)) from (omega (arith, p.started, p.annotated, p.bodied, p.ended)) (omega (arith, p.bodied, p.ended)))
 
 -- ---- what a step answers
 
@@ -170,3 +151,12 @@ unfolding step_of
 answer_lies limit rules s at hi x e =
     let f = steps-sound limit rules s (cursor at hi) in
     stands_lie (skips_on f.1) f.2 x e
+
+pub marker_lies : (limit : ℕ) (rules : Rules) (s : List ℕ) (at hi a x y e : ℕ) → gives (marker a x y e) ≡ answer_at limit rules s at hi → (at + 4 ≤ e) × (e ≤ hi)
+marker_lies limit rules s at hi a x y e h = answer_lies limit rules s at hi (marker a x y e) (sym h)
+
+pub value_lies : (limit : ℕ) (rules : Rules) (s : List ℕ) (at hi : ℕ) (v : Spans) → gives (value v) ≡ answer_at limit rules s at hi → HandedOut limit s at hi v.start v
+value_lies limit rules s at hi v h = answer_lies limit rules s at hi (value v) (sym h)
+
+pub field_lies : (limit : ℕ) (rules : Rules) (s : List ℕ) (at hi id a : ℕ) (v : Spans) → gives (field id a v) ≡ answer_at limit rules s at hi → HandedOut limit s at hi a v
+field_lies limit rules s at hi id a v h = answer_lies limit rules s at hi (field id a v) (sym h)

@@ -39,7 +39,7 @@ unranged_none limit s (suc k) rules hi at h = ap (tree_on s (tree_in limit k s) 
 
 pub whole_packs : (limit : ℕ) (s : List ℕ) → Packs limit Stream (length s) 0 (tree_of limit s)
 unfolding tree_of
-whole_packs limit s = packs limit s (length s) Stream (length s) 0 (omega arith)
+whole_packs limit s = packs limit s (length s) Stream (length s) 0
 
 pub packed-short : PackedShort
 unfolding packed

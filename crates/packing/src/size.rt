@@ -1,85 +1,27 @@
 // How many bytes a map has once it is packed. Nothing is written.
 //
 // `limit` is the most bytes that a value's annotations may have, `deepest` the depth at which a container is too deep.
-ghost use Rattle.std.specs.Prelude.{◌≡◌, ◌≤◌, ◌<◌, ◌^◌, length};
-ghost use Rattle.framing.specs.Read.{spans_of};
-ghost use Rattle.values.specs.Scalars.{body_rules};
-ghost use Rattle.packing.specs.Tree.{lengthless, kept_byte};
+ghost use Rattle.std.specs.Prelude.{◌≡◌, ◌<◌, ◌^◌, length};
+ghost use Rattle.packing.specs.Packed.{packed};
 ghost use Rattle.packing.specs.Answers.{size_of};
 ghost use Rattle.packing.specs.Read.{size_read};
-ghost use Rattle.packing.specs.Private.Sizes.{header_size, wrap_size};
-ghost use Rattle.packing.specs.Private.Items.{bytes_at, value_bytes, Meets, HandedOut, MetFits, entry_size};
+ghost use Rattle.packing.specs.Private.Sizes.{wrap_size};
+ghost use Rattle.packing.specs.Private.Items.{left_bytes, part_bytes, entry_body, entry_bytes, met_bytes, MetFits, Inside};
 
+use crate::header::{header_size, kept_byte};
+use crate::part::{Entry, Met, Part};
 use checking::check::check_map;
 use encoding::put::{head_size, var_uint_size};
-use framing::encoded_value::EncodedValue;
 use numbers::refusal::Refusal;
 use stepping::cursor::{Item, Rules, item_at};
-use values::value::is_container;
-
-// A value that is met, and where it begins with its field ID, which it has in a struct.
-#[derive(Clone, Copy)]
-pub(crate) struct Entry {
-    pub from: usize,
-    pub value: EncodedValue,
-}
-
-// What a step meets.
-#[derive(Clone, Copy)]
-pub(crate) enum Met {
-    Marker { major: u8, minor: u8, end: usize },
-    Value(Entry),
-}
-
-// The descriptor of an ordered struct, and of an empty one.
-pub(crate) const ORDERED: u8 = 0xD1;
-
-const EMPTY_STRUCT: u8 = 0xD0;
-
-// The type code of a struct.
-const STRUCT: u8 = 13;
+use values::value::open;
 
 // The bytes of a marker.
-pub(crate) const MARKER: usize = 4;
+const MARKER: usize = 4;
 
-// Whether no length stands in a descriptor: those of nulls and bools.
-#[tactic(auto, unfolding(crate::specs::Tree::lengthless))]
-pub(crate) fn lengthless(byte: u8) -> bool
-    ensures { result ≡ lengthless byte }
-{
-    byte / 16 < 2 || byte % 16 == 15
-}
-
-// A descriptor without its length, of a value whose body then has `n` bytes.
-pub(crate) fn kept_byte(byte: u8, n: usize) -> u8
-    ensures { result ≡ kept_byte byte n }
-{
-    if lengthless(byte) {
-        return byte;
-    }
-    if byte == ORDERED {
-        if n == 0 {
-            return EMPTY_STRUCT;
-        }
-        return ORDERED;
-    }
-    byte / 16 * 16
-}
-
-// How many bytes a descriptor and a length take.
-pub(crate) fn header_size(byte: u8, n: usize) -> usize
-    ensures { result ≡ header_size byte n }
-{
-    if lengthless(byte) {
-        return 1;
-    }
-    if byte == ORDERED {
-        return 1 + var_uint_size(n);
-    }
-    head_size(n)
-}
-
-// How many bytes a value of `n` bytes takes behind its annotations.
+// How many bytes a value of `n` bytes takes behind its annotations. This and `put_wrap`, as `size` and `put_front` of an entry, stay two: the lengths around a
+// value are put before it, and count it. A sink that counts or puts would be a trait, two impls and their laws, where each of these is a few lines.
+#[tactic(auto, using(std::proofs::lemmas::Bool::Decides::nat_tests), unfolding(crate::specs::Private::Sizes::wrap_size, crate::specs::Private::Sizes::wrapped_size))]
 pub(crate) fn wrap_size(annotations: usize, n: usize) -> usize
     requires { wrap_size annotations n < 2 ^ 64 }
     ensures { result ≡ wrap_size annotations n }
@@ -91,96 +33,123 @@ pub(crate) fn wrap_size(annotations: usize, n: usize) -> usize
     head_size(wrapped) + wrapped
 }
 
-// What the step at `at` meets. At the part's end nothing.
-pub(crate) fn meet(s: &[u8], rules: Rules, at: usize, end: usize, limit: usize) -> Option<Met>
-    requires { (at ≤ end) × (end ≤ length s.now) }
-    ensures meets { Meets limit s.now rules end at result }
-    ensures fits { MetFits limit s.now at end result }
-{
-    match item_at(rules, s, at, end, limit) {
-        Ok(
-            Item::Marker {
-                major,
-                minor,
-                end: past,
-                ..
-            },
-        ) => Some(Met::Marker {
-            major,
-            minor,
-            end: past,
-        }),
-        Ok(Item::Value(value)) => Some(Met::Value(Entry {
-            from: value.start,
-            value,
-        })),
-        Ok(Item::Field { start, value, .. }) => Some(Met::Value(Entry { from: start, value })),
-        Ok(Item::End { .. }) | Err(_) => None,
-    }
-}
-
-// The rules of a container's body.
-pub(crate) fn body_rules(value: EncodedValue) -> Rules
-    ensures { result ≡ body_rules (spans_of value) }
-{
-    if value.byte / 16 == STRUCT {
-        return Rules::Fields;
-    }
-    Rules::Sequence
-}
-
-// How many bytes a value takes with its field ID, once its body has `n` bytes.
-pub(crate) fn framed_size(entry: Entry, n: usize) -> usize
-    requires { (entry.from ≤ entry.value.start) × (entry.value.annotations ≤ entry.value.descriptor) × (entry_size entry n < 2 ^ 64) }
-    ensures { result ≡ entry_size entry n }
-{
-    let value = entry.value;
-    let size = header_size(kept_byte(value.byte, n), n) + n;
-    (value.start - entry.from) + wrap_size(value.descriptor - value.annotations, size)
-}
-
-// How many bytes the part at..end takes. This walk and that of `pack_part` stay two: a container's size is needed before its body is put, while a size adds up
-// what is inside as it goes. One walk over a sink would walk each inside twice to get a size, at every depth again.
-#[cycle(part_size_value_size)]
-pub(crate) fn part_size(s: &[u8], rules: Rules, at: usize, end: usize, limit: usize) -> usize
-    requires { (at ≤ end) × (end ≤ length s.now) }
-    ensures { result ≡ length (bytes_at limit s.now rules end at) }
-{
-    let mut from = at;
-    let mut size = 0;
-    while let Some(met) = meet(s, rules, from, end, limit) {
-        match met {
-            Met::Marker { end: past, .. } => {
-                size += MARKER;
-                from = past;
-            }
-            Met::Value(entry) => {
-                size += value_size(s, entry, limit);
-                from = entry.value.end;
-            }
+impl<'a> Part<'a> {
+    // All of a map.
+    #[tactic(auto, using(crate::proofs::Unrolled::whole_bytes))]
+    pub(crate) fn whole(s: &'a [u8], limit: usize) -> Part<'a>
+        ensures { part_bytes result ≡ packed limit s.now }
+    {
+        Part {
+            s,
+            limit,
+            rules: Rules::Stream,
+            at: 0,
+            end: s.len(),
         }
     }
-    size
+
+    // What the step at `at` meets. At the part's end nothing.
+    #[tactic(auto, using(crate::proofs::Unrolled::step_bytes, crate::proofs::Places::marker_lies, crate::proofs::Places::value_lies, crate::proofs::Places::field_lies))]
+    pub(crate) fn meet(&self, at: usize) -> Option<Met<'a>>
+        ensures meets { left_bytes self.now at ≡ met_bytes self.now result }
+        ensures fits { MetFits self.now at result }
+    {
+        let Part { s, limit, .. } = *self;
+        match item_at(self.rules, s, at, self.end, limit) {
+            Ok(
+                Item::Marker {
+                    major,
+                    minor,
+                    end,
+                    ..
+                },
+            ) => Some(Met::Marker { major, minor, end }),
+            Ok(Item::Value(value)) => Some(Met::Value(Entry {
+                s,
+                limit,
+                from: value.start,
+                value,
+            })),
+            Ok(Item::Field { start, value, .. }) => Some(Met::Value(Entry {
+                s,
+                limit,
+                from: start,
+                value,
+            })),
+            Ok(Item::End { .. }) | Err(_) => None,
+        }
+    }
+
+    // How many bytes it takes. This walk and that of `pack` stay two: a container's size is needed before its body is put, while a size adds up what is inside
+    // as it goes. One walk over a sink would walk each inside twice to get a size, at every depth again. Neither is a `for`: a step begins where what was met
+    // ends.
+    #[cycle(sizes)]
+    #[tactic(auto, using(crate::proofs::Places::part_sizes))]
+    pub(crate) fn size(&self) -> usize
+        ensures { result ≡ length (part_bytes self.now) }
+    {
+        let mut from = self.at;
+        let mut size = 0;
+        while let Some(met) = self.meet(from) {
+            match met {
+                Met::Marker { end, .. } => {
+                    size += MARKER;
+                    from = end;
+                }
+                Met::Value(entry) => {
+                    size += entry.size(entry.body_size());
+                    from = entry.value.end;
+                }
+            }
+        }
+        size
+    }
 }
 
-// How many bytes a value takes with its field ID.
-#[cycle(part_size_value_size)]
-fn value_size(s: &[u8], entry: Entry, limit: usize) -> usize
-    requires { HandedOut limit s.now entry.from (length s.now) entry.from (spans_of entry.value) }
-    ensures { result ≡ length (value_bytes limit s.now entry.from (spans_of entry.value)) }
-{
-    let value = entry.value;
-    if is_container(value) {
-        let n = part_size(s, body_rules(value), value.body, value.end, limit);
-        return framed_size(entry, n);
+impl<'a> Entry<'a> {
+    // What is in its value, where that is a container.
+    pub(crate) fn inside(&self) -> Option<Part<'a>>
+        ensures { Inside self.now result }
+    {
+        let body = open(self.value).ok()?;
+        Some(Part {
+            s: self.s,
+            limit: self.limit,
+            rules: body.rules,
+            at: body.cursor.at,
+            end: body.cursor.end,
+        })
     }
-    framed_size(entry, value.end - value.body)
+
+    // How many bytes its body takes.
+    #[cycle(sizes)]
+    #[tactic(auto, using(numbers::proofs::Parts::part_length))]
+    pub(crate) fn body_size(&self) -> usize
+        ensures { result ≡ length (entry_body self.now) }
+    {
+        match self.inside() {
+            Some(inside) => inside.size(),
+            None => self.value.end - self.value.body,
+        }
+    }
+
+    // How many bytes it takes, of which its body has `n`.
+    #[tactic(auto, using(crate::proofs::Entries::entry_size, crate::proofs::Entries::entry_least))]
+    fn size(&self, n: usize) -> usize
+        requires { n ≡ length (entry_body self.now) }
+        ensures { result ≡ length (entry_bytes self.now) }
+    {
+        let value = self.value;
+        let size = header_size(kept_byte(value.byte, n), n) + n;
+        (value.start - self.from) + wrap_size(value.descriptor - value.annotations, size)
+    }
 }
 
 // How many bytes a map has once it is packed.
+#[tactic(auto, using(crate::proofs::Buffers::size_refused))]
 pub fn packed_size(s: &[u8], limit: usize, deepest: usize) -> Result<usize, Refusal>
     ensures { size_read result ≡ size_of limit deepest s.now }
 {
     check_map(s, limit, deepest)?;
-    Ok(part_size(s, Rules::Stream, 0, s.len(), limit))
+    Ok(Part::whole(s, limit).size())
 }

@@ -27,7 +27,7 @@ impl Tally {
 }
 
 // Whether a word is the one expected. A `?` stands for any word.
-fn same_word(expected: &str, word: &str) -> bool {
+fn is_expected(expected: &str, word: &str) -> bool {
     if expected == "?" {
         !word.is_empty()
     } else {
@@ -36,13 +36,14 @@ fn same_word(expected: &str, word: &str) -> bool {
 }
 
 // Whether an answer is the one expected, word for word. A mark `!` behind the one expected is no part of it.
+// The second one's words by hand: `zip` would stop at the shorter, and not say whether words are left.
 fn agrees(expected: &str, answer: &str) -> bool {
     let mut words = answer.split(' ');
     for wanted in expected.strip_suffix(" !").unwrap_or(expected).split(' ') {
         let Some(word) = words.next() else {
             return false;
         };
-        if !same_word(wanted, word) {
+        if !is_expected(wanted, word) {
             return false;
         }
     }

@@ -3,14 +3,23 @@ use crate::hexadecimal;
 use std::alloc::{AllocError, Global};
 use std::str::{FromStr, Split};
 
+// The limits where a question says none: the most bytes that a value's annotations may have, and the depth at which a container is not entered.
+// Copies, as `listing` has them, so that a change there is seen here.
+pub const ANNOTATION_LIMIT: usize = 255;
+
+pub const DEPTH_LIMIT: usize = 32;
+
+// The words that are left, and what an answer to them allocates by.
 #[derive(Drop)]
 pub struct Words<'a> {
+    pub alloc: Global,
     left: Split<'a, char>,
 }
 
 impl<'a> Words<'a> {
-    pub fn of(text: &'a str) -> Self {
+    pub fn of(alloc: Global, text: &'a str) -> Self {
         Words {
+            alloc,
             left: text.split(' '),
         }
     }
@@ -39,7 +48,7 @@ impl<'a> Words<'a> {
     }
 
     // The bytes that the next word spells in hexadecimal.
-    pub fn bytes(&mut self, alloc: Global) -> Result<Vec<u8>, AllocError> {
-        hexadecimal::decode(alloc, self.word().unwrap_or(""))
+    pub fn bytes(&mut self) -> Result<Vec<u8>, AllocError> {
+        hexadecimal::decode(self.alloc, self.word().unwrap_or(""))
     }
 }

@@ -1,6 +1,7 @@
 // A reader that holds the lent map beside its position, the part's end, the part's kind and the limit of annotation bytes: one thing to pass on.
 //
-// Its functions are thin: each takes it apart, and the work is done by `step_through`, which takes the map and numbers.
+// Its functions are thin: each takes it apart, and the work is done by `step_through`, which takes the map and numbers. They are functions and no methods, as callers
+// have them; and the three entries of `stepping` are matched on, so that a reader answers by what the scope names.
 #![tactic(auto)]
 
 ghost use Rattle.std.specs.Prelude.{◌≡◌};
@@ -8,10 +9,10 @@ ghost use Rattle.stepping.specs.Read.{step_read};
 ghost use Rattle.reader.specs.Reading.{step_through};
 
 use framing::limits::out_of_range;
-use numbers::refusal::{Reason, Refusal};
+use numbers::refusal::{LIMIT_OUT_OF_RANGE, OUTSIDE};
 use stepping::cursor::{Cursor, NoSuchKind, Rules, Step};
 
-#[derive(Clone, Copy)]
+#[derive(Clone, Copy, Debug, PartialEq, Eq)]
 pub struct Reader<'a> {
     pub map: &'a [u8],
     pub at: usize,
@@ -29,10 +30,7 @@ pub fn step_through(map: &[u8], at: usize, end: usize, kind: u64, limit: usize) 
     let cursor = Cursor { at, end };
     if out_of_range(limit) {
         return Step {
-            item: Err(Refusal {
-                reason: Reason::LimitOutOfRange,
-                position: 0,
-            }),
+            item: Err(LIMIT_OUT_OF_RANGE),
             next: cursor,
         };
     }
@@ -41,10 +39,7 @@ pub fn step_through(map: &[u8], at: usize, end: usize, kind: u64, limit: usize) 
         Ok(Rules::Sequence) => cursor.next_in_sequence(map, limit),
         Ok(Rules::Fields) => cursor.next_in_struct(map, limit),
         Err(NoSuchKind) => Step {
-            item: Err(Refusal {
-                reason: Reason::Outside,
-                position: 0,
-            }),
+            item: Err(OUTSIDE),
             next: cursor,
         },
     }
@@ -77,7 +72,7 @@ pub fn moved<'a>(r: Reader<'a>, at: usize) -> Reader<'a>
     Reader { at, ..r }
 }
 
-// The first item of a part, by a reader: plain parameters, so that its callers need no walk.
+// The first item of a part, by a reader: plain parameters, so that its callers need no reader.
 pub fn first(map: &[u8], at: usize, end: usize, kind: u64, limit: usize) -> Step
     ensures { step_read result ≡ step_through limit map.now at end kind }
 {

@@ -1,7 +1,8 @@
 // The exported readings of what a step hands out: an annotation, the body of a container, a scalar, a number. The caller lends a buffer for the answer's
 // record.
 //
-// `limit` is the most bytes that a value's annotations may have. The parameters, a form as a number among them, and the numbers returned are C's.
+// `limit` is the most bytes that a value's annotations may have. The parameters, a form as a number among them, and the numbers returned are C's, and are
+// handed on as they came.
 ghost use Rattle.std.specs.Prelude.{◌≡◌};
 ghost use Rattle.framing.specs.Read.{annotation_read};
 ghost use Rattle.values.specs.Scalars.{step_in, read_scalar, read_with_value};
@@ -14,12 +15,10 @@ ghost use Rattle.readings.specs.Forms.{form_number};
 use crate::form::Form;
 use framing::annotations_iterator::{Annotation, read_annotation};
 use numbers::binary_buffer::{read_int, read_var_int, read_var_uint};
-use numbers::refusal::Refusal;
+use numbers::refusal::{OUTSIDE, Refusal};
 use records::buffer::{RECORD_WORDS, put_record};
 use records::number::Number;
-use records::words::{
-    OUTSIDE, annotation_words, body_words, number_words, refused_words, scalar_words,
-};
+use records::words::{annotation_words, body_words, number_words, refused_words, scalar_words};
 use values::value::{open, read_with_value, value_in};
 
 // One annotation step over the bytes start..end.
@@ -38,6 +37,7 @@ fn annotation_at(
     read_annotation(map, position, end)
 }
 
+#[tactic(auto, using(crate::proofs::Returned::annotation_returned))]
 pub fn ion_map_annotation(
     map: &[u8],
     start: usize,
@@ -71,6 +71,7 @@ fn body_at(
     }
 }
 
+#[tactic(auto, using(crate::proofs::Returned::body_returned))]
 pub fn ion_map_step_in(
     map: &[u8],
     start: usize,
@@ -85,7 +86,8 @@ pub fn ion_map_step_in(
     put_record(out, body_at(map, start, end, position, limit))
 }
 
-// Reads the value at `position` of the part start..end.
+// Reads the value at `position` of the part start..end. This and the step above share their parameters, which are C's, and no line of what they do; by
+// `map_or_else` in place of each `match` the proof did not close.
 fn scalar_at(
     map: &[u8],
     start: usize,
@@ -101,6 +103,7 @@ fn scalar_at(
     }
 }
 
+#[tactic(auto, using(crate::proofs::Returned::reading_returned))]
 pub fn ion_map_scalar(
     map: &[u8],
     start: usize,
@@ -115,7 +118,7 @@ pub fn ion_map_scalar(
     put_record(out, scalar_at(map, start, end, position, limit))
 }
 
-// A number by its form.
+// A number by its form, which C says as a number, so that no closure can stand in its place.
 #[tactic(auto, unfolding(crate::specs::Exported::number_by))]
 fn number_by(
     map: &[u8],
@@ -150,6 +153,7 @@ fn number_at(
     }
 }
 
+#[tactic(auto, using(crate::proofs::Returned::number_returned))]
 pub fn ion_map_number(
     map: &[u8],
     start: usize,

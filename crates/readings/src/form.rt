@@ -14,6 +14,7 @@ pub enum Form {
 #[derive(Clone, Copy, Debug, PartialEq, Eq)]
 pub struct NoSuchForm;
 
+// Written out, as that of `Rules` is: no derive makes an enum of its number.
 impl TryFrom<u64> for Form {
     type Error = NoSuchForm;
 

@@ -1,4 +1,4 @@
-// The readings of what a step hands out, as other languages call them: the functions of the crate `readings`, each under its clauses.
+// The readings of what a step hands out, as other languages call them: the functions of the crate `readings`, each under its clauses. The parameters are C's.
 #![tactic(auto)]
 
 ghost use Rattle.std.specs.Prelude.{◌≡◌};

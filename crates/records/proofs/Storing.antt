@@ -1,4 +1,4 @@
--- Lists stored in a buffer one after the other.
+-- Lists stored in a buffer one after the other, and what the words of a record tell.
 -- Assumes nothing.
 use Prim.Native.Nat.{ℕ, zero, suc, ◌+◌, ◌*◌, ◌/◌, ◌%◌, ◌^◌, ◌<◌}
 use native.Mathlib.Omega.{arith}
@@ -6,11 +6,14 @@ use native.Mathlib.Nat as nat
 use native.Mathlib.Numerals.{unary_clauses}
 use mathlib.Core.Path.{◌≡◌, refl, ◌∙◌, sym, ap}
 use mathlib.Core.List.{List, [], ◌∷◌, ◌++◌, append_assoc}
+use lib.Dec.{eqb}
 use lib.ListN.{length, get_or, take, drop, length-append}
+use borrow.Author.Tests.{eq-eqb, ne_eqb}
 use borrow.Rule.Slice.PartMut.{put_mid}
 use Rattle.std.specs.Int.{w64, to_le_bytes, bytes_low_first}
 use Rattle.std.proofs.lemmas.List.{take_more, take_at, drop_at, drop-drop, append-nil, length-take-le}
-use Rattle.records.specs.Buffer.{little_endian, word_size, bytes_of}
+use Rattle.numbers.proofs.Outcomes.{by_case}
+use Rattle.records.specs.Buffer.{little_endian, word_size, bytes_of, number_in}
 
 pub length_little : (n x : ℕ) → length (little_endian n x) ≡ n
 unfolding little_endian
@@ -51,3 +54,24 @@ next_word ws old xs ys i k h kk e w =
     let more : bytes_of (take (i + 1) ws) ≡ front ++ ys =
     ap bytes_of (take_more ws i 0 h) ∙ bytes_append (take i ws) (get_or ws i 0 ∷ []) ∙ ap (λ (l : List ℕ). front ++ l) (append-nil _ ∙ sym w) in
     rw (more, b, c) (sym (append_assoc front ys (drop ((i + 1) * word_size) old)))
+
+pub ruleset stored = (next_word, little_is)
+
+-- what the words of a record tell: a refusal's number, where they are those of a refusal
+module _ (ws : List ℕ) where
+  pub told_refused : get_or ws 0 0 ≡ 9 → number_in ws ≡ get_or ws 1 0
+  unfolding number_in
+  told_refused e = rw (eq-eqb _ _ e)
+
+  pub told_other : (get_or ws 0 0 ≡ 9 → ⊥) → number_in ws ≡ 0
+  unfolding number_in
+  told_other e = rw (ne_eqb _ _ e)
+
+-- and nothing by too few
+pub told_short : (ws : List ℕ) → length ws < 2 → number_in ws ≡ 0
+unfolding number_in
+told_short [] h = refl
+told_short (x ∷ []) h = by_case (eqb x 9) (λ e. rw e) (λ e. rw e)
+told_short (x ∷ y ∷ ws) h = absurd (omega arith)
+
+pub ruleset told = (told_refused, told_other, told_short)

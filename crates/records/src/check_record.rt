@@ -1,4 +1,4 @@
-// The words of a check's record.
+// The words of a check's record: an array, since there is no heap and C is given so many words. `as u64` of a kind is its own number.
 ghost use Rattle.std.specs.Prelude.{◌≡◌};
 ghost use Rattle.numbers.specs.Outcome.{gives};
 ghost use Rattle.numbers.specs.Read.{refusal_read};
@@ -20,7 +20,8 @@ pub fn counts_words(counts: [u64; 15]) -> [u64; CHECK_WORDS]
     words
 }
 
-// The words of a check that is refused: those of any refusal, and zeros.
+// The words of a check that is refused: those of any refusal, and zeros. One function over the number of words, for both records, is longer: it could not ask
+// for three words at least, and so would have to say what fewer hold.
 pub fn refused_check_words(refusal: Refusal) -> [u64; CHECK_WORDS]
     ensures { result ≡ check_words (refusal_read refusal) }
 {

@@ -1,4 +1,7 @@
-// The words of each kind of record.
+// The words of each kind of record: arrays, since there is no heap and C is given nine words.
+//
+// `as u64` of a `usize`: std has no `From` for it, and each is proved to lose nothing; of an enum it is the case's own number. The arm of a refusal stands in
+// each function: by `map_or_else` the proof did not close.
 ghost use Rattle.std.specs.Prelude.{◌≡◌, ◌+◌, ◌-◌, [], ◌∷◌};
 ghost use Rattle.numbers.specs.Outcome.{and_then, gives};
 ghost use Rattle.numbers.specs.Read.{outcome};
@@ -18,7 +21,7 @@ use crate::number::Number;
 use bodies::decimal::Decimal;
 use framing::annotations_iterator::Annotation;
 use framing::encoded_value::{EncodedValue, Length};
-use numbers::refusal::{Reason, Refusal};
+use numbers::refusal::Refusal;
 use stepping::cursor::{Item, Name, Rules};
 use timestamps::timestamp::Stamp;
 use values::value::{Body, Scalar, Span, TimestampRead};
@@ -52,7 +55,7 @@ fn value_words(
     ]
 }
 
-// The kind of a value's record, by the rules of its part.
+// The kind of a value's record, by the rules of its part. No `From`: it is not the rules that have a kind; and nothing is run by the case.
 fn value_kind(rules: Rules) -> RecordKind
     ensures { kind_word result ≡ value_kind rules }
 {
@@ -62,7 +65,8 @@ fn value_kind(rules: Rules) -> RecordKind
     }
 }
 
-// The words of a value without a wrapper that ends at `end`, behind its name, which begins at `start`: its descriptor is this byte.
+// The words of a value without a wrapper that ends at `end`, behind its name, which begins at `start`: its descriptor is this byte. Not by `value_words`: the
+// size is the one that was read, which the contract allows to differ from `end` - `length.body`.
 pub fn bare_words(
     rules: Rules,
     start: usize,
@@ -154,17 +158,6 @@ pub fn refused_words(refusal: Refusal) -> [u64; RECORD_WORDS]
     ]
 }
 
-// What a call refuses by itself: a part, a position, a kind or a form that isn't one, and a limit outside its range.
-pub const OUTSIDE: Refusal = Refusal {
-    reason: Reason::Outside,
-    position: 0,
-};
-
-pub const LIMIT_OUT_OF_RANGE: Refusal = Refusal {
-    reason: Reason::LimitOutOfRange,
-    position: 0,
-};
-
 // The words of an answer that is a number of bytes.
 pub fn bytes_words(kind: RecordKind, size: Result<usize, Refusal>) -> [u64; RECORD_WORDS]
     ensures { result ≡ bytes_words (kind_word kind) (outcome (λ n. n) size) }
@@ -235,7 +228,8 @@ enum What {
     Container = 10,
 }
 
-const NO_PART: Span = Span { start: 0, end: 0 };
+// Zeros, and no `None`, as C's record has them.
+pub(crate) const NO_PART: Span = Span { start: 0, end: 0 };
 
 // The words of a reading: what it is, its number and its part.
 fn reading_words(value: EncodedValue, what: What, worth: u64, part: Span) -> [u64; RECORD_WORDS]

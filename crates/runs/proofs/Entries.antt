@@ -42,8 +42,8 @@ use Rattle.values.proofs.value.read.Met as reading-met
 use Rattle.runs.specs.Program.{annotation_lowers, body_lowers, scalar_lowers, HasEntries, Annotates, Enters, Reads}
 use Rattle.runs.proofs.Machine as machine
 use Rattle.runs.proofs.Machine.{Answered}
-use Rattle.runs.proofs.Values.{num, bit, field, choose, read_result, read_option, refusal_back}
-use Rattle.runs.proofs.Results.{one, other, differ, made, made_read, known}
+use Rattle.runs.proofs.Values.{num, bit, field, choose, read_result, read_option, refusal_back, one_by}
+use Rattle.runs.proofs.Results.{told_by}
 
 -- ---- annotations
 
@@ -59,9 +59,6 @@ module _ (κs : Lfts 1) where
   annotation_back (Ok (Some a)) = refl
   annotation_back (Ok None) = refl
   annotation_back (Err e) = ap Err (refusal_back e)
-
-  annotation_one : (x y : Result (Option Annotation) Refusal) → (annotation_lowers κs).lowered x ≡ (annotation_lowers κs).lowered y → x ≡ y
-  annotation_one x y e = sym (annotation_back x) ∙ ap read-annotation e ∙ annotation_back y
 
 id_of : Annotated → Option Annotation
 id_of (ident i n) = Some (record { id = i; next = n })
@@ -98,9 +95,6 @@ module _ (κs : Lfts 1) where
   body_back (Ok b) = ap (λ (r : Rules). Ok (record { rules = r; cursor = b.cursor })) (rules_back b.rules)
   body_back (Err e) = ap Err (refusal_back e)
 
-  body_one : (x y : Result Body Refusal) → (body_lowers κs).lowered x ≡ (body_lowers κs).lowered y → x ≡ y
-  body_one x y e = sym (body_back x) ∙ ap (read_result read_body) e ∙ body_back y
-
 body_of : Opened → Body
 body_of o = record { rules = o.rules; cursor = cursor o.body o.end }
 
@@ -114,7 +108,7 @@ body-back b = refl
 
 -- ---- the scalar reading
 
-read_span : Val → Span
+abbrev pub read_span : Val → Span
 read_span v = record { start = num (field 0 v); end = num (field 1 v) }
 
 read-scalar : Val → ScalarEnum
@@ -126,7 +120,7 @@ read-scalar v =
     Container
 
 scalar_back : (x : ScalarEnum) → read-scalar (scalar-laws.lowered x) ≡ x
-unfolding read_span read-scalar
+unfolding read-scalar
 scalar_back (Null t) = refl
 scalar_back (Bool b) = refl
 scalar_back (Int n m) = refl
@@ -144,10 +138,7 @@ module _ (κs : Lfts 1) where
   reading_back (Ok x) = ap Ok (scalar_back x)
   reading_back (Err e) = ap Err (refusal_back e)
 
-  scalar_one : (x y : Result ScalarEnum Refusal) → (scalar_lowers κs).lowered x ≡ (scalar_lowers κs).lowered y → x ≡ y
-  scalar_one x y e = sym (reading_back x) ∙ ap (read_result read-scalar) e ∙ reading_back y
-
-span : ℕ → ℕ → Span
+abbrev pub span : ℕ → ℕ → Span
 span a b = record { start = a; end = b }
 
 scalar-of : Scalar → ScalarEnum
@@ -164,7 +155,7 @@ scalar-of (blob a b) = Blob (span a b)
 scalar-of container = Container
 
 scalar_told_lem : (x : Scalar) → scalar_told (scalar-of x) ≡ x
-unfolding span scalar-of
+unfolding scalar-of
 scalar_told_lem (null t) = refl
 scalar_told_lem (bool b) = refl
 scalar_told_lem (int n a b) = refl
@@ -178,7 +169,7 @@ scalar_told_lem (blob a b) = refl
 scalar_told_lem container = refl
 
 scalar_of_lem : (x : ScalarEnum) → scalar-of (scalar_told x) ≡ x
-unfolding span scalar-of
+unfolding scalar-of
 scalar_of_lem (Null t) = refl
 scalar_of_lem (Bool b) = refl
 scalar_of_lem (Int n m) = refl
@@ -196,21 +187,18 @@ module _ {M : Type 1} {𝓤 : Ura M} (𝓛 : Logic 𝓤) (𝓜 : Model 𝓤 𝓛
 
   pub annotation_answers : (s : Bor (List ℕ)) (at end : ℕ) → Answered 𝓛 𝓜 annotation.signature (𝓡.env annotation-symbol.name) κs tt (annotation_lowers κs) (s, (at, (end, tt))) (λ x. annotation_read x ≡ read_annotation s.now at end)
   annotation_answers s at end =
-      machine.answered 𝓛 𝓜 𝓡 annotation.ended (𝓡.env annotation-symbol.name) (annotation.clauses 𝓛 𝓜.mem 𝓡.returns) (annotation-met.met 𝓤 𝓛 𝓜 (strict 𝓤 H 𝓜 𝓡) has.annotation) κs tt (annotation_lowers κs) annotation_read (made annotated_of id_of id_told id_back) (made_read annotated_of id_of id_told id_back) (annotation_one κs) (Err one) (Err other) differ
+      machine.answered 𝓛 𝓜 𝓡 annotation.ended (𝓡.env annotation-symbol.name) (annotation.clauses 𝓛 𝓜.mem 𝓡.returns) (annotation-met.met 𝓤 𝓛 𝓜 (strict 𝓤 H 𝓜 𝓡) has.annotation) κs tt (annotation_lowers κs) (told_by annotated_of id_of id_told id_back) (one_by (annotation_lowers κs).lowered read-annotation (annotation_back κs))
       (s, (at, (end, tt))) tt (read_annotation s.now at end) (id⊢ 𝓤 (emp 𝓤)) (λ x ws. id⊢ 𝓤 (fact 𝓤 (annotation_read x ≡ read_annotation s.now at end)))
-      (known annotated_of id_of id_told id_back (read_annotation s.now at end))
 
   pub entering_answers : (limit : ℕ) (s : Bor (List ℕ)) (lo hi at : ℕ) → Answered 𝓛 𝓜 entering.signature (𝓡.env entering-symbol.name) κs tt (body_lowers κs) (s, (lo, (hi, (at, (limit, tt))))) (λ x. body_read x ≡ step_in limit s.now lo hi at)
   entering_answers limit s lo hi at =
-      machine.answered 𝓛 𝓜 𝓡 entering.ended (𝓡.env entering-symbol.name) (entering.clauses 𝓛 𝓜.mem 𝓡.returns) (entering-met.met 𝓤 𝓛 𝓜 (strict 𝓤 H 𝓜 𝓡) has.entering) κs tt (body_lowers κs) body_read (made opened_of body_of body_told body-back) (made_read opened_of body_of body_told body-back) (body_one κs) (Err one) (Err other) differ
+      machine.answered 𝓛 𝓜 𝓡 entering.ended (𝓡.env entering-symbol.name) (entering.clauses 𝓛 𝓜.mem 𝓡.returns) (entering-met.met 𝓤 𝓛 𝓜 (strict 𝓤 H 𝓜 𝓡) has.entering) κs tt (body_lowers κs) (told_by opened_of body_of body_told body-back) (one_by (body_lowers κs).lowered (read_result read_body) (body_back κs))
       (s, (lo, (hi, (at, (limit, tt))))) tt (step_in limit s.now lo hi at) (id⊢ 𝓤 (emp 𝓤)) (λ x ws. id⊢ 𝓤 (fact 𝓤 (body_read x ≡ step_in limit s.now lo hi at)))
-      (known opened_of body_of body_told body-back (step_in limit s.now lo hi at))
 
   pub reading_answers : (limit : ℕ) (s : Bor (List ℕ)) (lo hi at : ℕ) → Answered 𝓛 𝓜 reading.signature (𝓡.env reading-symbol.name) κs tt (scalar_lowers κs) (s, (lo, (hi, (at, (limit, tt))))) (λ x. scalar_read x ≡ read_scalar limit s.now lo hi at)
   reading_answers limit s lo hi at =
-      machine.answered 𝓛 𝓜 𝓡 reading.ended (𝓡.env reading-symbol.name) (reading.clauses 𝓛 𝓜.mem 𝓡.returns) (reading-met.met 𝓤 𝓛 𝓜 (strict 𝓤 H 𝓜 𝓡) has.reading) κs tt (scalar_lowers κs) scalar_read (made scalar_told scalar-of scalar_told_lem scalar_of_lem) (made_read scalar_told scalar-of scalar_told_lem scalar_of_lem) (scalar_one κs) (Err one) (Err other) differ
+      machine.answered 𝓛 𝓜 𝓡 reading.ended (𝓡.env reading-symbol.name) (reading.clauses 𝓛 𝓜.mem 𝓡.returns) (reading-met.met 𝓤 𝓛 𝓜 (strict 𝓤 H 𝓜 𝓡) has.reading) κs tt (scalar_lowers κs) (told_by scalar_told scalar-of scalar_told_lem scalar_of_lem) (one_by (scalar_lowers κs).lowered (read_result read-scalar) (reading_back κs))
       (s, (lo, (hi, (at, (limit, tt))))) tt (read_scalar limit s.now lo hi at) (id⊢ 𝓤 (emp 𝓤)) (λ x ws. id⊢ 𝓤 (fact 𝓤 (scalar_read x ≡ read_scalar limit s.now lo hi at)))
-      (known scalar_told scalar-of scalar_told_lem scalar_of_lem (read_scalar limit s.now lo hi at))
 
   pub annotates : (s : Bor (List ℕ)) (end at : ℕ) (o : Outcome Annotated) → Annotates 𝓛 𝓜 𝓡.env κs s end at o → o ≡ read_annotation s.now at end
   annotates s end at o p = sym p.2 ∙ (annotation_answers s at end).returned p.0 p.1

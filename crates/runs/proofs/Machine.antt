@@ -75,40 +75,53 @@ pub record Answered {M : Type 1} {𝓤 : Ura M} (𝓛 : Logic 𝓤) (𝓜 : Mode
   pub returned : (y : Res S κs) → Returned 𝓛 𝓜 S ρ κs bounds L a y → P y
   pub ends : Ends 𝓛 𝓜 S ρ κs bounds L a P
 
+-- how results are read, and made from what they are read as, where there is one; and two results
+pub record Reading (Y X : Type 0) : Type 0 where
+  pub read : Y → X
+  pub made : X → Y
+  pub made_read : (y : Y) → made (read y) ≡ y
+  pub known : (x : X) → (read (made x) ≡ x) ⊎ ((y : Y) → read y ≡ x → ⊥)
+  pub one : Y
+  pub other : Y
+  pub differ : one ≡ other → ⊥
+
 -- the same from a function's own theorem: T is its signature with what ends with its borrows, cl its clauses, met its theorem. Where its contract says what its
 -- result is read as, x, and `made` gives each result back from what it is read as, whatever the machine returned is read so, and every call ends and returns what
 -- is read so. Where no result is read as x, no call is made at all: else it would return each of two results.
 module _ {M : Type 1} {𝓤 : Ura M} (𝓛 : Logic 𝓤) (𝓜 : Model 𝓤 𝓛.H) (𝓡 : Running 𝓤 𝓛.H 𝓜) (T : Ended) (ρ : Routine) (cl : Clauses 𝓤 T) (met : Meets 𝓛 T.signature (𝓡.returns ρ) (closing 𝓛 T cl)) (κs : Lfts T.signature.lifetimes) (bounds : AllOutlive T.signature.lifetimes T.signature.outlives κs) (L : Lowered (type_at T.signature.result κs)) where
   open 𝓛 use {H}
 
-  module _ {X : Type 0} (read : Res T.signature κs → X) (made : X → Res T.signature κs) (made-read : (y : Res T.signature κs) → made (read y) ≡ y) (inj : (y z : Res T.signature κs) → L.lowered y ≡ L.lowered z → y ≡ z) (one other : Res T.signature κs) (differ : one ≡ other → ⊥) where
-    module _ (a : Args T.signature κs) (g : (cl κs a).ghost) (x : X) (pre : ent 𝓤 (emp 𝓤) ((cl κs a).requires g)) (tells : (y : Res T.signature κs) (ws : Lasts T κs a) → ent 𝓤 ((cl κs a).ensures g y (at_exit T κs a ws)) (fact 𝓤 (read y ≡ x))) where
-      meets : (r : Res T.signature κs) → ((z : Res T.signature κs) → read z ≡ x → z ≡ r) → Bracket 𝓛 T.signature (𝓡.returns ρ) κs a r
+  module _ {X : Type 0} (R : Reading (Res T.signature κs) X) (inj : (y z : Res T.signature κs) → L.lowered y ≡ L.lowered z → y ≡ z) where
+    module _ (a : Args T.signature κs) (g : (cl κs a).ghost) (x : X) (pre : ent 𝓤 (emp 𝓤) ((cl κs a).requires g)) (tells : (y : Res T.signature κs) (ws : Lasts T κs a) → ent 𝓤 ((cl κs a).ensures g y (at_exit T κs a ws)) (fact 𝓤 (R.read y ≡ x))) where
+      meets : (r : Res T.signature κs) → ((z : Res T.signature κs) → R.read z ≡ x → z ≡ r) → Bracket 𝓛 T.signature (𝓡.returns ρ) κs a r
       meets r is =
           of_spec 𝓛 T (𝓡.returns ρ) (routine_mono 𝓤 H 𝓜 (strict 𝓤 H 𝓜 𝓡) ρ) cl met κs a g r pre (λ z ws.
-          via 𝓤 (fact 𝓤 (read z ≡ x)) (tells z ws) (fact_mono 𝓤 (read z ≡ x) (z ≡ r) (is z)))
+          via 𝓤 (fact 𝓤 (R.read z ≡ x)) (tells z ws) (fact_mono 𝓤 (R.read z ≡ x) (z ≡ r) (is z)))
 
-      pub answered : (read (made x) ≡ x) ⊎ ((y : Res T.signature κs) → read y ≡ x → ⊥) → Answered 𝓛 𝓜 T.signature ρ κs bounds L a (λ y. read y ≡ x)
-      answered (inl e) =
-          let b : Bracket 𝓛 T.signature (𝓡.returns ρ) κs a (made x) = meets (made x) (λ z q. sym (made-read z) ∙ ap made q) in
+      by_known : (R.read (R.made x) ≡ x) ⊎ ((y : Res T.signature κs) → R.read y ≡ x → ⊥) → Answered 𝓛 𝓜 T.signature ρ κs bounds L a (λ y. R.read y ≡ x)
+      by_known (inl e) =
+          let b : Bracket 𝓛 T.signature (𝓡.returns ρ) κs a (R.made x) = meets (R.made x) (λ z q. sym (R.made_read z) ∙ ap R.made q) in
           record {
-            returned = λ y back. ap read (returned 𝓛 𝓜 𝓡 T.signature ρ κs bounds L a (made x) b inj y back) ∙ e;
+            returned = λ y back. ap R.read (returned 𝓛 𝓜 𝓡 T.signature ρ κs bounds L a (R.made x) b inj y back) ∙ e;
             ends = λ σ vss passed.
-                ∥∥₁_map (returns 𝓛 𝓜 𝓡 T.signature ρ κs bounds L a (made x) b σ vss passed) (λ t. (made x, e, t.0, t.1));
+                ∥∥₁_map (returns 𝓛 𝓜 𝓡 T.signature ρ κs bounds L a (R.made x) b σ vss passed) (λ t. (R.made x, e, t.0, t.1));
           }
-      answered (inr n) =
-          let b : Bracket 𝓛 T.signature (𝓡.returns ρ) κs a one = meets one (λ z q. absurd (n z q)) in
-          let b' : Bracket 𝓛 T.signature (𝓡.returns ρ) κs a other = meets other (λ z q. absurd (n z q)) in
+      by_known (inr n) =
+          let b : Bracket 𝓛 T.signature (𝓡.returns ρ) κs a R.one = meets R.one (λ z q. absurd (n z q)) in
+          let b' : Bracket 𝓛 T.signature (𝓡.returns ρ) κs a R.other = meets R.other (λ z q. absurd (n z q)) in
           record {
             returned = λ y back.
                 absurd
-                (differ
-                (sym (returned 𝓛 𝓜 𝓡 T.signature ρ κs bounds L a one b inj y back)
-                ∙ returned 𝓛 𝓜 𝓡 T.signature ρ κs bounds L a other b' inj y back));
+                (R.differ
+                (sym (returned 𝓛 𝓜 𝓡 T.signature ρ κs bounds L a R.one b inj y back)
+                ∙ returned 𝓛 𝓜 𝓡 T.signature ρ κs bounds L a R.other b' inj y back));
             ends = λ σ vss passed.
-                ∥∥₁_elim (returns 𝓛 𝓜 𝓡 T.signature ρ κs bounds L a one b σ vss passed) ∥∥₁_prop (λ t.
-                ∥∥₁_elim (returns 𝓛 𝓜 𝓡 T.signature ρ κs bounds L a other b' σ vss passed) ∥∥₁_prop (λ u.
+                ∥∥₁_elim (returns 𝓛 𝓜 𝓡 T.signature ρ κs bounds L a R.one b σ vss passed) ∥∥₁_prop (λ t.
+                ∥∥₁_elim (returns 𝓛 𝓜 𝓡 T.signature ρ κs bounds L a R.other b' σ vss passed) ∥∥₁_prop (λ u.
                 absurd
-                (differ
-                (inj one other (ap (λ y. y.0) (ends-one ρ (flat (types_at T.signature.params κs) vss) σ (L.lowered one, t.0) (L.lowered other, u.0) t.1 u.1))))));
+                (R.differ
+                (inj R.one R.other (ap (λ y. y.0) (ends-one ρ (flat (types_at T.signature.params κs) vss) σ (L.lowered R.one, t.0) (L.lowered R.other, u.0) t.1 u.1))))));
           }
+
+      pub answered : Answered 𝓛 𝓜 T.signature ρ κs bounds L a (λ y. R.read y ≡ x)
+      answered = by_known (R.known x)

@@ -41,9 +41,9 @@ use Rattle.stepping.specs.declared.cursor.Item.{Item}
 use Rattle.stepping.specs.declared.cursor.Item.TheVariants.{End, Marker, Value, Field}
 use Rattle.stepping.specs.declared.cursor.Step.{Step}
 use Rattle.runs.proofs.Machine as machine
-use Rattle.runs.proofs.Machine.{Answered}
-use Rattle.runs.proofs.Values.{num, parts, nth, choose, read_result}
-use Rattle.runs.proofs.Results.{one, other, differ, made as made_result, made_read as made_result_read, known as known_result}
+use Rattle.runs.proofs.Machine.{Answered, Reading}
+use Rattle.runs.proofs.Values.{num, parts, nth, choose, read_result, one_by}
+use Rattle.runs.proofs.Results.{told_by}
 use Rattle.stepping.proofs.Tiling.{tiling}
 use Rattle.runs.proofs.Overwriting.{overwriting}
 use Rattle.runs.proofs.OneBody.{Stands, by_rules, one_of_many}
@@ -78,6 +78,7 @@ read_step : Val → Step
 read_step v =
     record { item = read_result read-item (nth 0 (parts v)); next = cursor (num (nth 0 (parts (nth 1 (parts v))))) (num (nth 1 (parts (nth 1 (parts v))))) }
 
+-- case by case: the machine's value of a reason inside a step is no term that `refusal_back` speaks of
 refused_back : (r : Reason) (p : ℕ) (n : Cursor) → let x : Step = record { item = Err (record { reason = r; position = p }); next = n } in read_step (lowered x) ≡ x
 unfolding read-value read-item read_step
 refused_back NoValueLeft p n = refl
@@ -133,7 +134,7 @@ read_back (Ok (Field i a v)) n = refl
 read_back (Err e) n = refused_back e.reason e.position n
 
 one_value : (x y : Step) → lowered x ≡ lowered y → x ≡ y
-one_value x y e = sym (read_back x.item x.next) ∙ ap read_step e ∙ read_back y.item y.next
+one_value = one_by lowered read_step (λ x. read_back x.item x.next)
 
 -- the step that has a given answer
 value_of : Spans → EncodedValue
@@ -167,29 +168,42 @@ item_back (Marker a x y e) = refl
 item_back (Value v) = refl
 item_back (Field i a v) = refl
 
+abbrev items : Reading (Result Item Refusal) (Outcome Answer)
+items = told_by places_of item_of item_told item_back
+
 made : Stepped → Step
-made r = record { item = made_result places_of item_of item_told item_back r.answer; next = r.next }
+made r = record { item = items.made r.answer; next = r.next }
 
 made_read : (x : Step) → made (step_read x) ≡ x
 unfolding made
-made_read x =
-    ap (λ (i : Result Item Refusal). record { item = i; next = x.next }) (made_result_read places_of item_of item_told item_back x.item)
+made_read x = ap (λ (i : Result Item Refusal). record { item = i; next = x.next }) (items.made_read x.item)
 
 known : (r : Stepped) → (step_read (made r) ≡ r) ⊎ ((y : Step) → step_read y ≡ r → ⊥)
 unfolding made
-known r = go (known_result places_of item_of item_told item_back r.answer)
+known r = go (items.known r.answer)
   where
-    go : (item_read (made_result places_of item_of item_told item_back r.answer) ≡ r.answer) ⊎ ((y : Result Item Refusal) → item_read y ≡ r.answer → ⊥) → (step_read (made r) ≡ r) ⊎ ((y : Step) → step_read y ≡ r → ⊥)
+    go : (item_read (items.made r.answer) ≡ r.answer) ⊎ ((y : Result Item Refusal) → item_read y ≡ r.answer → ⊥) → (step_read (made r) ≡ r) ⊎ ((y : Step) → step_read y ≡ r → ⊥)
     go (inl e) = inl (ap (λ (o : Outcome Answer). record { answer = o; next = r.next }) e)
     go (inr n) = inr (λ y e. n y.item (ap (λ (x : Stepped). x.answer) e))
 
--- two steps
-refused : Refusal → Step
-refused e = record { item = Err e; next = cursor 0 0 }
+-- a step of no place
+with_item : Result Item Refusal → Step
+with_item i = record { item = i; next = cursor 0 0 }
 
-two : refused one ≡ refused other → ⊥
-unfolding refused
-two e = differ (ap (λ (x : Step). x.item) e)
+differ : with_item items.one ≡ with_item items.other → ⊥
+unfolding with_item
+differ e = items.differ (ap (λ (x : Step). x.item) e)
+
+abbrev steps : Reading Step Stepped
+steps = record {
+  read = step_read;
+  made = made;
+  made_read = made_read;
+  known = known;
+  one = with_item items.one;
+  other = with_item items.other;
+  differ = differ;
+}
 
 -- runs go with the answers
 pub map-run {ℓ} : {A : Cursor → Stepped → Type ℓ} {B : Cursor → Stepped → Type 0} → ((c : Cursor) (r : Stepped) → A c r → B c r) → {c : Cursor} {rs : List Stepped} → Run A c rs → Run B c rs
@@ -219,18 +233,18 @@ module _ {M : Type 1} {𝓤 : Ura M} (𝓛 : Logic 𝓤) (𝓜 : Model 𝓤 𝓛
 
   in_stream_answers : (limit : ℕ) (s : Bor (List ℕ)) (c : Cursor) → Answered 𝓛 𝓜 in-stream.signature (𝓡.env in-stream-symbol.name) κs tt lowers (c, (s, (limit, tt))) (λ x. step_read x ≡ step_of limit Stream s.now c)
   in_stream_answers limit s c =
-      machine.answered 𝓛 𝓜 𝓡 in-stream.ended (𝓡.env in-stream-symbol.name) (in-stream.clauses 𝓛 𝓜.mem 𝓡.returns) (in-stream-met.met 𝓤 𝓛 𝓜 (strict 𝓤 H 𝓜 𝓡) has.in_stream) κs tt lowers step_read made made_read one_value (refused one) (refused other) two
-      (c, (s, (limit, tt))) tt (step_of limit Stream s.now c) (id⊢ 𝓤 (emp 𝓤)) (λ x ws. id⊢ 𝓤 (fact 𝓤 (step_read x ≡ step_of limit Stream s.now c))) (known (step_of limit Stream s.now c))
+      machine.answered 𝓛 𝓜 𝓡 in-stream.ended (𝓡.env in-stream-symbol.name) (in-stream.clauses 𝓛 𝓜.mem 𝓡.returns) (in-stream-met.met 𝓤 𝓛 𝓜 (strict 𝓤 H 𝓜 𝓡) has.in_stream) κs tt lowers steps one_value
+      (c, (s, (limit, tt))) tt (step_of limit Stream s.now c) (id⊢ 𝓤 (emp 𝓤)) (λ x ws. id⊢ 𝓤 (fact 𝓤 (step_read x ≡ step_of limit Stream s.now c)))
 
   in_sequence_answers : (limit : ℕ) (s : Bor (List ℕ)) (c : Cursor) → Answered 𝓛 𝓜 in-sequence.signature (𝓡.env in-sequence-symbol.name) κs tt lowers (c, (s, (limit, tt))) (λ x. step_read x ≡ step_of limit Sequence s.now c)
   in_sequence_answers limit s c =
-      machine.answered 𝓛 𝓜 𝓡 in-sequence.ended (𝓡.env in-sequence-symbol.name) (in-sequence.clauses 𝓛 𝓜.mem 𝓡.returns) (in-sequence-met.met 𝓤 𝓛 𝓜 (strict 𝓤 H 𝓜 𝓡) has.in_sequence) κs tt lowers step_read made made_read one_value (refused one) (refused other) two
-      (c, (s, (limit, tt))) tt (step_of limit Sequence s.now c) (id⊢ 𝓤 (emp 𝓤)) (λ x ws. id⊢ 𝓤 (fact 𝓤 (step_read x ≡ step_of limit Sequence s.now c))) (known (step_of limit Sequence s.now c))
+      machine.answered 𝓛 𝓜 𝓡 in-sequence.ended (𝓡.env in-sequence-symbol.name) (in-sequence.clauses 𝓛 𝓜.mem 𝓡.returns) (in-sequence-met.met 𝓤 𝓛 𝓜 (strict 𝓤 H 𝓜 𝓡) has.in_sequence) κs tt lowers steps one_value
+      (c, (s, (limit, tt))) tt (step_of limit Sequence s.now c) (id⊢ 𝓤 (emp 𝓤)) (λ x ws. id⊢ 𝓤 (fact 𝓤 (step_read x ≡ step_of limit Sequence s.now c)))
 
   in_struct_answers : (limit : ℕ) (s : Bor (List ℕ)) (c : Cursor) → Answered 𝓛 𝓜 in-struct.signature (𝓡.env in-struct-symbol.name) κs tt lowers (c, (s, (limit, tt))) (λ x. step_read x ≡ step_of limit Fields s.now c)
   in_struct_answers limit s c =
-      machine.answered 𝓛 𝓜 𝓡 in-struct.ended (𝓡.env in-struct-symbol.name) (in-struct.clauses 𝓛 𝓜.mem 𝓡.returns) (in-struct-met.met 𝓤 𝓛 𝓜 (strict 𝓤 H 𝓜 𝓡) has.in_struct) κs tt lowers step_read made made_read one_value (refused one) (refused other) two
-      (c, (s, (limit, tt))) tt (step_of limit Fields s.now c) (id⊢ 𝓤 (emp 𝓤)) (λ x ws. id⊢ 𝓤 (fact 𝓤 (step_read x ≡ step_of limit Fields s.now c))) (known (step_of limit Fields s.now c))
+      machine.answered 𝓛 𝓜 𝓡 in-struct.ended (𝓡.env in-struct-symbol.name) (in-struct.clauses 𝓛 𝓜.mem 𝓡.returns) (in-struct-met.met 𝓤 𝓛 𝓜 (strict 𝓤 H 𝓜 𝓡) has.in_struct) κs tt lowers steps one_value
+      (c, (s, (limit, tt))) tt (step_of limit Fields s.now c) (id⊢ 𝓤 (emp 𝓤)) (λ x ws. id⊢ 𝓤 (fact 𝓤 (step_read x ≡ step_of limit Fields s.now c)))
 
   -- each answer of the program is the one that the rules define
   pub answers : (limit : ℕ) (rules : Rules) (s : Bor (List ℕ)) (c : Cursor) (r : Stepped) → Program 𝓛 𝓜 𝓡.env κs limit rules s c r → Answers limit rules s.now c r

@@ -21,6 +21,7 @@ use Rattle.numbers.specs.declared.refusal.Reason.TheVariants.{TooDeep, NotVersio
 use Rattle.numbers.specs.declared.refusal.Reason.TheVariants.{SecondSymbols, Outside, RecordTooShort, NotAContainer, InputTooLong, NotTheSystemText, NoPadsAllowed}
 use Rattle.numbers.specs.declared.refusal.Reason.TheVariants.{LimitOutOfRange, NoRoomToPack, NoRoomToWrite, NoSuchLength}
 use Rattle.numbers.proofs.Outcomes.{by_case}
+use Rattle.runs.proofs.Machine.{Reading}
 use Rattle.runs.proofs.Values.{choose}
 
 -- the reason that has a number, and some reason where none has it
@@ -120,3 +121,14 @@ module _ {A B : Type 0} (told : A → B) (untold : B → A) (told_back : (b : B)
       none d (Err r) e =
           let q : number_of r.reason ≡ n = cc in
           d (ap (λ (k : ℕ). number_of (reason_of k)) (sym q) ∙ ap number_of (reason_is r.reason) ∙ q)
+
+  abbrev pub told_by : Reading (Result A Refusal) (Outcome B)
+  told_by = record {
+    read = outcome told;
+    made = made;
+    made_read = made_read;
+    known = known;
+    one = Err one;
+    other = Err other;
+    differ = differ;
+  }

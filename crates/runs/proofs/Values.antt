@@ -1,7 +1,7 @@
 -- How results are read back from machine values.
 -- Assumes nothing.
 use Prim.Native.Nat.{ℕ, zero, suc}
-use mathlib.Core.Path.{◌≡◌, refl, ap}
+use mathlib.Core.Path.{◌≡◌, refl, ◌∙◌, sym, ap}
 use mathlib.Core.Bool.{Bool, false}
 use mathlib.Core.List.{List, [], ◌∷◌}
 use mir.Val.{Val, Vals, vunit, vbool, vint, vfloat, vptr, vstruct, vcode, vnil, vcons}
@@ -129,3 +129,7 @@ refusal_back e = ap (λ (r : Reason). record { reason = r; position = e.position
     reason_back NoRoomToPack = refl
     reason_back NoRoomToWrite = refl
     reason_back NoSuchLength = refl
+
+-- what is read back from its machine value is one where the machine value is
+pub one_by : {A : Type 0} (lower : A → Val) (read : Val → A) → ((x : A) → read (lower x) ≡ x) → (x y : A) → lower x ≡ lower y → x ≡ y
+one_by lower read back x y e = sym (back x) ∙ ap read e ∙ back y

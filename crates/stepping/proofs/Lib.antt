@@ -9,3 +9,4 @@ pub mod Examples
 pub mod Moves
 pub mod Naming
 pub mod Plain
+pub mod ShortNames

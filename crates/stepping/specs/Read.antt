@@ -1,8 +1,9 @@
 -- What each type of this layer says in the scope paper's terms.
 -- Assumes nothing.
-use Rattle.std.specs.Prelude.{Result}
+use Rattle.std.specs.Prelude.{Option, Some, None, Result}
 use Rattle.numbers.specs.Outcome.{Outcome}
 use Rattle.numbers.specs.Answers.{Unsigned}
+use Rattle.numbers.specs.ShortVarUInt.{ShortUnsigned, short, none}
 use Rattle.numbers.specs.Read.{outcome}
 use Rattle.numbers.specs.declared.refusal.Refusal.{Refusal}
 use Rattle.framing.specs.Read.{spans_of}
@@ -29,6 +30,11 @@ name_of n = record { value = n.id; next = n.next }
 
 abbrev pub named_read : Result Name Refusal → Outcome Unsigned
 named_read = outcome name_of
+
+-- a short name, where one is said
+abbrev pub short_name_read : Option Name → ShortUnsigned
+short_name_read (Some n) = short (name_of n)
+short_name_read None = none
 
 abbrev pub step_read : Step → Stepped
 step_read r = record { answer = item_read r.item; next = r.next }

@@ -1,26 +1,29 @@
 // A cursor that is stepped through a stream, a list's or sexp's body, or a struct's body.
 //
-// `limit` is the most bytes that a value's annotations may have. A part's rules, its slice and its end are parameters of their own, as callers have them: a
-// struct of them would be made at each call and taken apart in each contract.
+// `limit` is the most bytes that a value's annotations may have. A part's rules, its slice, its end and the limit are parameters of their own, as callers have them: a
+// struct of them would be made at each call and taken apart in each contract. What is read for each item stands in its callers' place, as in `numbers`.
 ghost use Rattle.std.specs.Prelude.{◌≡◌, false, ◌+◌, ◌≤◌, ◌<◌, length, OkIff};
 ghost use Rattle.framing.specs.Limits.{out_of_range};
 ghost use Rattle.framing.specs.Read.{spans_of, frame_of};
 ghost use Rattle.numbers.specs.Outcome.{and_then};
+ghost use Rattle.numbers.specs.ShortVarUInt.{short_var_uint_of};
 ghost use Rattle.stepping.specs.Answers.{version_passes, marker_at, after, step_of};
 ghost use Rattle.stepping.specs.Items.{item_end};
 ghost use Rattle.stepping.specs.Kinds.{rules_of, part_kind};
 ghost use Rattle.stepping.specs.Leaving.{left_of, is_last};
 ghost use Rattle.stepping.specs.Names.{field_id, name_at, name_from, item_by, tile_by, is_marker, tile_from, answer_from};
-ghost use Rattle.stepping.specs.Read.{places_of, item_read, name_of, named_read, step_read};
+ghost use Rattle.stepping.specs.Read.{places_of, item_read, name_of, named_read, short_name_read, step_read};
 ghost use Rattle.stepping.specs.Private.Tiles.{handed, tile_of, tile_read};
 
 use framing::binary_buffer::read_frame;
 use framing::encoded_value::{EncodedValue, Frame, NopPad};
 use framing::limits::out_of_range;
-use numbers::binary_buffer::{outside, read_var_uint};
-use numbers::refusal::{Reason, Refusal};
+use numbers::binary_buffer::{outside, read_var_uint, short_var_uint};
+use numbers::refusal::{LIMIT_OUT_OF_RANGE, OUTSIDE, Reason, Refusal};
+use numbers::var_uint::VarUInt;
 
-// The rules of a part: a stream, the body of a list or a sexp, the body of a struct.
+// The rules of a part: a stream, the body of a list or a sexp, the body of a struct. They are matched on where they differ, in a line or two each: as types of a
+// trait, each step would be compiled three times.
 #[derive(Clone, Copy, Debug, PartialEq, Eq)]
 pub enum Rules {
     Stream,
@@ -46,7 +49,8 @@ impl TryFrom<u64> for Rules {
     }
 }
 
-// The rules of a part of this kind, where the kind is not tested: those of a struct's body for each that no part has.
+// The rules of a part of this kind, where the kind is not tested: those of a struct's body for each that no part has. Beside `try_from`, since it cannot fail:
+// a caller that has tested the kind takes eight instructions less by it.
 pub fn rules_of(kind: u64) -> Rules
     ensures { result ≡ rules_of kind }
 {
@@ -77,7 +81,7 @@ pub struct Cursor {
     pub end: usize,
 }
 
-// What a step hands out.
+// What a step hands out. The end is a case of its own and no `None`: it has the part's end, as the scope's answer has.
 #[derive(Clone, Copy, Debug, PartialEq, Eq)]
 pub enum Item {
     // Nothing is left; the position is the part's end.
@@ -138,7 +142,8 @@ pub struct Step {
     pub next: Cursor,
 }
 
-// What the rules of a part want before a pad or a value, its name: in a struct's body a field ID, elsewhere nothing, with 0 for the ID; and where it ends.
+// What the rules of a part want before a pad or a value, its name: in a struct's body a field ID, elsewhere nothing, with 0 for the ID, as in the
+// definition; and where it ends.
 #[derive(Clone, Copy, Debug, PartialEq, Eq)]
 pub struct Name {
     pub id: usize,
@@ -194,6 +199,7 @@ fn read_ivm(s: &[u8], at: usize, end: usize) -> Result<Item, Refusal>
 }
 
 // The field ID at `at`, where something follows it.
+#[inline(always)]
 #[tactic(auto, unfolding(crate::specs::Names::field_id, crate::specs::Names::followed))]
 fn read_field_id(s: &[u8], at: usize, end: usize) -> Result<Name, Refusal>
     ensures { named_read result ≡ field_id s.now at end }
@@ -212,6 +218,7 @@ fn read_field_id(s: &[u8], at: usize, end: usize) -> Result<Name, Refusal>
 }
 
 // The name of what begins at `at`.
+#[inline(always)]
 pub fn read_name(rules: Rules, s: &[u8], at: usize, end: usize) -> Result<Name, Refusal>
     ensures { named_read result ≡ name_at rules s.now at end }
 {
@@ -221,7 +228,24 @@ pub fn read_name(rules: Rules, s: &[u8], at: usize, end: usize) -> Result<Name, 
     }
 }
 
-// That name, which is not read again where it was read before: then it is `name`, which ends behind `at`.
+// That name where it is short and something follows it, as most are: nothing is said of another.
+pub fn short_name(rules: Rules, s: &[u8], at: usize, end: usize) -> Option<Name>
+    ensures { short_name_read result ≡ short_var_uint_of at (name_at rules s.now at end) }
+{
+    match rules {
+        Rules::Stream | Rules::Sequence => Some(Name { id: 0, next: at }),
+        Rules::Fields => {
+            let VarUInt { value, next } = short_var_uint(s, at, end)?;
+            if next == end {
+                return None;
+            }
+            Some(Name { id: value, next })
+        }
+    }
+}
+
+// The name of what begins at `at`, which is not read again where it was read before: then it is `name`, which ends behind `at`.
+#[inline(always)]
 #[tactic(auto, unfolding(crate::specs::Names::name_from))]
 fn name_from(rules: Rules, s: &[u8], at: usize, name: Name, end: usize) -> Result<Name, Refusal>
     ensures { named_read result ≡ name_from rules s.now at end (name_of name) }
@@ -267,6 +291,7 @@ fn is_marker(rules: Rules, byte: u8) -> bool
 }
 
 // What begins at `at`, by the rules of the part; its name may be read, as `name_from` has it.
+#[inline(always)]
 #[tactic(auto, unfolding(crate::specs::Names::tile_from, crate::specs::Names::tile_behind))]
 fn read_tile(
     rules: Rules,
@@ -302,33 +327,28 @@ pub fn after_item(cursor: Cursor, item: Result<Item, Refusal>) -> Cursor
 }
 
 // What the step at `at` in the part that ends at `end` answers: past the pads to the next item, the end or a refusal. The name of what begins at `at` may be
-// read: then its ID is `id`, and it ends at `next`, behind `at`.
+// read: then it is `name`, which ends behind `at`.
+#[inline(always)]
 #[tactic(auto, using(crate::proofs::Naming::step_laws))]
 pub fn item_from(
     rules: Rules,
     s: &[u8],
     at: usize,
-    id: usize,
-    next: usize,
+    name: Name,
     end: usize,
     limit: usize,
 ) -> Result<Item, Refusal>
-    ensures { item_read result ≡ answer_from limit rules s.now at end (record { value = id; next = next }) }
+    ensures { item_read result ≡ answer_from limit rules s.now at end (name_of name) }
 {
     if out_of_range(limit) {
-        return Err(Refusal {
-            reason: Reason::LimitOutOfRange,
-            position: 0,
-        });
+        return Err(LIMIT_OUT_OF_RANGE);
     }
     if outside(s, at, end) {
-        return Err(Refusal {
-            reason: Reason::Outside,
-            position: 0,
-        });
+        return Err(OUTSIDE);
     }
     let mut from = at;
-    let mut name = Name { id, next };
+    let mut name = name;
+    // No index is counted: behind a pad it goes on where the pad ends.
     while from < end {
         match read_tile(rules, s, from, name, end, limit)? {
             Tile::Pad(pad) => {
@@ -346,7 +366,7 @@ pub fn item_from(
 pub fn item_at(rules: Rules, s: &[u8], at: usize, end: usize, limit: usize) -> Result<Item, Refusal>
     ensures { item_read result ≡ (step_of limit rules s.now (record { at = at; end = end })).answer }
 {
-    item_from(rules, s, at, 0, at, end, limit)
+    item_from(rules, s, at, Name { id: 0, next: at }, end, limit)
 }
 
 // One step: its answer, and the cursor that it leaves.
@@ -359,6 +379,7 @@ fn next_item(rules: Rules, s: &[u8], cursor: Cursor, limit: usize) -> Step
     Step { item, next }
 }
 
+// Three entries, as the scope has them, and no parameter: each is one call to one function.
 impl Cursor {
     // The next item of a stream.
     pub fn next_in_stream(self, s: &[u8], limit: usize) -> Step

@@ -1,14 +1,16 @@
 -- Where what a step answers lies: the end is the part's end, an item begins at the step's position or behind it, has a byte at least and ends in the part. Of a
 -- position or a part outside the slice a step hands nothing out, so nothing is asked of either.
 -- Assumes nothing.
-use Prim.Native.Nat.{ℕ, ◌+◌, ◌≤◌, ◌<◌}
+use Prim.Native.Nat.{ℕ, ◌+◌, ◌-◌, ◌≤◌, ◌<◌}
 use native.Mathlib.Omega.{arith}
 use mathlib.Core.Path.{◌≡◌, refl, subst}
 use mathlib.Core.Bool.{Bool, true, false, true≢false}
 use mathlib.Core.List.{List}
 use lib.ListN.{length}
 use Rattle.numbers.specs.Outcome.{Outcome, gives, refuses}
+use Rattle.framing.specs.Read.{spans_of}
 use Rattle.framing.specs.Spans.{Spans}
+use Rattle.framing.specs.declared.encoded_value.EncodedValue.{EncodedValue}
 use Rattle.framing.specs.Format.{ValueBytes, plain, annotated}
 use Rattle.stepping.specs.Items.{Item, finish, marker, value, field, item_end, Pad}
 use Rattle.stepping.specs.Answers.{step_of, answer_at}
@@ -82,6 +84,17 @@ moves_on (a_field _ v) _ = (omega (arith, v.starts, v.header, v.order), v.fits)
 
 pub moved_on : (limit : ℕ) (rules : Rules) (s : List ℕ) (at hi : ℕ) {i : Item} → answer_at limit rules s at hi ≡ gives i → is_last (gives i) ≡ false → (at < item_end i) × (item_end i ≤ hi)
 moved_on limit rules s at hi q = moves_on (subst (Met s at hi) q (met limit rules s at hi))
+
+-- less of the part is left behind it
+module _ (limit : ℕ) (rules : Rules) (s : List ℕ) (at hi : ℕ) where
+  pub marker_less : {a x y e : ℕ} → answer_at limit rules s at hi ≡ gives (marker a x y e) → hi - e < hi - at
+  marker_less q = omega (arith, moved_on limit rules s at hi q refl)
+
+  pub value_less : {v : EncodedValue} → answer_at limit rules s at hi ≡ gives (value (spans_of v)) → hi - v.end < hi - at
+  value_less q = omega (arith, moved_on limit rules s at hi q refl)
+
+  pub field_less : {id a : ℕ} {v : EncodedValue} → answer_at limit rules s at hi ≡ gives (field id a (spans_of v)) → hi - v.end < hi - at
+  field_less q = omega (arith, moved_on limit rules s at hi q refl)
 
 -- what a step hands out by the rules of its part
 abbrev pub is_handed : Outcome Item → Rules → Bool

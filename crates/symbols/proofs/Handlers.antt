@@ -1,18 +1,23 @@
 -- What is made of an item of the stream, of a table's field and of a list's entry leads to the item's end, if anywhere.
 -- Assumes nothing.
-use Prim.Native.Nat.{ℕ}
-use mathlib.Core.Path.{◌≡◌, refl}
+use Prim.Native.Nat.{ℕ, ◌+◌, ◌-◌, ◌<◌}
+use native.Mathlib.Omega.{arith}
+use borrow.Author.Tests.{ne_eqb}
+use mathlib.Core.Path.{◌≡◌, refl, ◌∙◌, sym, ap}
 use mathlib.Core.Bool.{Bool}
 use mathlib.Core.List.{List}
 use lib.Dec.{ltb, eqb}
 use Rattle.numbers.specs.Outcome.{Outcome, gives, refuses}
-use Rattle.numbers.proofs.Outcomes.{by_test}
+use Rattle.numbers.proofs.Outcomes.{by_test, by_case}
+use Rattle.framing.specs.Read.{spans_of}
 use Rattle.framing.specs.Spans.{Spans}
-use Rattle.stepping.specs.Items.{finish, marker, value, field}
+use Rattle.framing.specs.declared.encoded_value.EncodedValue.{EncodedValue}
+use Rattle.stepping.specs.Items.{Item, finish, marker, value, field}
 use Rattle.stepping.specs.Answers.{answer_at}
 use Rattle.stepping.specs.declared.cursor.Rules.TheVariants.{Stream, Sequence, Fields}
-use Rattle.symbols.specs.Turns.{turned, meets, step_all}
-use Rattle.symbols.specs.Text.{is_table, Ruling, tabled, on_stream, SymbolsField, on_field, on_entry}
+use Rattle.symbols.specs.Turns.{Turn, over, further, turned, meets, step_all}
+use Rattle.symbols.specs.Text.{is_table, Ruling, system_alone, tabled, towards, on_stream, SymbolsField, on_field, on_entry}
+use Rattle.symbols.specs.Private.Turned.{at_place}
 use Rattle.symbols.proofs.Stepping.{Leads, stops, goes, Follows, one_step}
 
 tabled_leads : (v : Spans) (r : Ruling) (o : Outcome Bool) → Leads (value v) (tabled v r o)
@@ -55,3 +60,35 @@ module _ (limit : ℕ) (s : List ℕ) (at end : ℕ) where
 
   pub entry_step : (n : ℕ) → step_all limit Sequence s (on_entry s) at end n ≡ turned (λ e k. step_all limit Sequence s (on_entry s) e end k) (meets (on_entry s) n (answer_at limit Sequence s at end))
   entry_step n = one_step limit Sequence s end (on_entry s) (entry_follows s) at n
+
+  -- one more entry is passed
+  pub entry_passed : (count k : ℕ) (v : EncodedValue) → k < count → answer_at limit Sequence s at end ≡ gives (value (spans_of v)) → step_all limit Sequence s (on_entry s) v.end end (count - (k + 1)) ≡ step_all limit Sequence s (on_entry s) at end (count - k)
+  unfolding on_entry
+  entry_passed count k v h e =
+      let n : count - k - 1 ≡ count - (k + 1) = omega arith in
+      sym (entry_step (count - k) ∙ rw (e, ne_eqb (count - k) 0 (omega arith), n))
+
+-- an item that stands around the place is refused
+around : (place a e : ℕ) (r : Ruling) (met : Turn Ruling Ruling) (n p : ℕ) → at_place place a e ≡ refuses n p → towards place a e r met ≡ over (refuses n p)
+unfolding at_place
+around place a e r met n p h =
+    by_case (eqb a place) (λ t. let q = rw t at h in cc) (λ t.
+    by_case (ltb place e) (λ u. let q = rw (t, u) at h in rw (t, u) (ap (λ (o : Outcome Ruling). over o) cc)) (λ u. let q = rw (t, u) at h in cc))
+
+module _ (limit : ℕ) (s : List ℕ) (at end place : ℕ) (r : Ruling) where
+  on : Turn Ruling Ruling → Outcome Ruling
+  on = turned (λ e q. step_all limit Stream s (on_stream s place) e end q)
+
+  pub marker_around : (a x y e n p : ℕ) → answer_at limit Stream s at end ≡ gives (marker a x y e) → at_place place a e ≡ refuses n p → step_all limit Stream s (on_stream s place) at end r ≡ refuses n p
+  unfolding on_stream on
+  marker_around a x y e n p h q =
+      stream_step limit s at end place r
+      ∙ ap (λ (o : Outcome Item). on (meets (on_stream s place) r o)) h
+      ∙ ap on (around place a e r (further e system_alone) n p q)
+
+  pub value_around : (v : EncodedValue) (n p : ℕ) → answer_at limit Stream s at end ≡ gives (value (spans_of v)) → at_place place v.start v.end ≡ refuses n p → step_all limit Stream s (on_stream s place) at end r ≡ refuses n p
+  unfolding on_stream on
+  value_around v n p h q =
+      stream_step limit s at end place r
+      ∙ ap (λ (o : Outcome Item). on (meets (on_stream s place) r o)) h
+      ∙ ap on (around place v.start v.end r (tabled (spans_of v) r (is_table s (spans_of v))) n p q)

@@ -77,15 +77,23 @@ pub texts_told : TextsTold
 texts_told limit s lent start end place id t q = each_of (text_each limit s lent start end place id) q
 
 -- and so it is a part of its slice
-own_part : {s lent : List ℕ} {id a b : ℕ} → TextTold s lent id (own a b) → (a ≤ b) × (b ≤ length s)
-own_part (in_map _ l m _) = (l, m)
-
-system_part_of : {s lent : List ℕ} {id a b : ℕ} → TextTold s lent id (system a b) → (a ≤ b) × (b ≤ length lent)
-system_part_of (in_system _ _ l m _) = (l, m)
-
 module _ (limit : ℕ) (s lent : List ℕ) (start end place id a b : ℕ) where
-  pub own_in : text_of limit s lent start end place id ≡ gives (own a b) → (a ≤ b) × (b ≤ length s)
-  own_in q = own_part (texts_told limit s lent start end place id (own a b) q)
+  own_part : TextTold s lent id (own a b) → (a ≤ b) × (b ≤ length s)
+  own_part (in_map _ l m _) = (l, m)
 
-  pub system_in : text_of limit s lent start end place id ≡ gives (system a b) → (a ≤ b) × (b ≤ length lent)
-  system_in q = system_part_of (texts_told limit s lent start end place id (system a b) q)
+  system_part_of : TextTold s lent id (system a b) → (a ≤ b) × (b ≤ length lent)
+  system_part_of (in_system _ _ l m _) = (l, m)
+
+  pub own_order : text_of limit s lent start end place id ≡ gives (own a b) → a ≤ b
+  own_order q = (own_part (texts_told limit s lent start end place id (own a b) q)).0
+
+  pub own_within : text_of limit s lent start end place id ≡ gives (own a b) → b ≤ length s
+  own_within q = (own_part (texts_told limit s lent start end place id (own a b) q)).1
+
+  pub system_order : text_of limit s lent start end place id ≡ gives (system a b) → a ≤ b
+  system_order q = (system_part_of (texts_told limit s lent start end place id (system a b) q)).0
+
+  pub system_within : text_of limit s lent start end place id ≡ gives (system a b) → b ≤ length lent
+  system_within q = (system_part_of (texts_told limit s lent start end place id (system a b) q)).1
+
+pub ruleset parts_told = (own_order, own_within, system_order, system_within)

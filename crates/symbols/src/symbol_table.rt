@@ -1,18 +1,20 @@
 // Symbol tables: which one rules at a place of a stream, which list gives its own texts, and the entry of that list.
 //
-// A table and a list are each given by the body of the value: `None` where the system's texts rule alone, and where no list gives texts.
+// A table and a list are each given by the body of the value: `None` where the system's texts rule alone, and where no list gives texts. The stream's places
+// are parameters here as they are of the entries.
 ghost use Rattle.std.specs.Prelude.{◌≡◌, ◌<◌};
 ghost use Rattle.numbers.specs.Outcome.{gives};
+ghost use Rattle.numbers.specs.Read.{outcome};
 ghost use Rattle.framing.specs.Read.{spans_of};
 ghost use Rattle.symbols.specs.Text.{is_table, ruling_at, list_of, own_list, system_text, entry_text, own_text, text_in, table, listed};
 ghost use Rattle.symbols.specs.Read.{own_read, symbols_read, text_told, text_read};
-ghost use Rattle.symbols.specs.Private.Turned.{table_read, ruling_read, ruled_read};
+ghost use Rattle.symbols.specs.Private.Turned.{table_read, ruling_read, ruled_read, at_place};
 
 use crate::symbols::SymbolText;
 use bodies::utf8::is_utf8;
 use framing::annotations_iterator::read_annotation;
 use framing::encoded_value::EncodedValue;
-use numbers::refusal::{Reason, Refusal};
+use numbers::refusal::{OUTSIDE, Reason, Refusal};
 use stepping::cursor::{Item, Rules, item_at};
 use values::value::{Span, is_typed};
 
@@ -33,6 +35,7 @@ const SYMBOLS: usize = 7;
 // The first ID of a table's own, and where each of the nine texts below it begins among the system's, and the last one's end.
 const FIRST_OWN_ID: usize = 10;
 
+// A place of the texts is looked up and not summed: this table and the joined texts (system_texts.rt) are proved to be those of one list of nine.
 const STARTS: [usize; 10] = [0, 4, 12, 29, 33, 40, 47, 54, 60, 84];
 
 // Whether a value is a symbol table.
@@ -47,6 +50,20 @@ fn is_table(s: &[u8], value: EncodedValue) -> Result<bool, Refusal>
         Some(annotation) => Ok(annotation.id == SYMBOL_TABLE),
         None => Ok(false),
     }
+}
+
+// Whether an item of the stream, start..end, is the one at a place: refused where the place is inside it.
+#[tactic(auto, using(values::proofs::Tests::tests))]
+fn is_at(place: usize, start: usize, end: usize) -> Result<bool, Refusal>
+    ensures { outcome (λ t. t) result ≡ at_place place start end }
+{
+    if start == place {
+        return Ok(true);
+    }
+    if place < end {
+        return Err(OUTSIDE);
+    }
+    Ok(false)
 }
 
 // What rules at a place of the stream start..end.
@@ -64,52 +81,27 @@ pub fn ruling_at(
     let mut table = None;
     loop {
         match item_at(Rules::Stream, s, at, end, limit)? {
-            Item::End { position } => {
-                if position == place {
-                    return Ok(table);
-                }
-                return Err(Refusal {
-                    reason: Reason::Outside,
-                    position: 0,
-                });
-            }
+            Item::End { position } if position == place => return Ok(table),
+            Item::End { .. } | Item::Field { .. } => return Err(OUTSIDE),
             Item::Marker {
                 start: from,
                 end: behind,
                 ..
             } => {
-                if from == place {
+                if is_at(place, from, behind)? {
                     return Ok(table);
-                }
-                if place < behind {
-                    return Err(Refusal {
-                        reason: Reason::Outside,
-                        position: 0,
-                    });
                 }
                 table = None;
                 at = behind;
             }
             Item::Value(value) => {
-                if value.start == place {
+                if is_at(place, value.start, value.end)? {
                     return Ok(table);
-                }
-                if place < value.end {
-                    return Err(Refusal {
-                        reason: Reason::Outside,
-                        position: 0,
-                    });
                 }
                 if is_table(s, value)? {
                     table = Some(Span::of_body(value));
                 }
                 at = value.end;
-            }
-            _ => {
-                return Err(Refusal {
-                    reason: Reason::Outside,
-                    position: 0,
-                });
             }
         }
     }
@@ -207,6 +199,7 @@ fn entry_in(s: &[u8], list: Span, count: usize, limit: usize) -> Result<SymbolTe
     ensures { text_read result ≡ own_text limit s.now count (listed list.start list.end) }
 {
     let mut at = list.start;
+    // A turn for each entry that is passed: they lie in no slice to go over.
     for _ in 0..count {
         let Item::Value(value) = item_at(Rules::Sequence, s, at, list.end, limit)? else {
             return Ok(SymbolText::Unknown);

@@ -12,10 +12,10 @@ use crate::symbol_table::{own_list, ruling_at, text_in};
 use crate::system_texts::is_system;
 use framing::limits::out_of_range;
 use numbers::binary_buffer::outside;
-use numbers::refusal::{Reason, Refusal};
+use numbers::refusal::{LIMIT_OUT_OF_RANGE, OUTSIDE, Reason, Refusal};
 use values::value::Span;
 
-// Where a symbol's text lies: nowhere, in the map, or in the system's texts.
+// Where a symbol's text lies: nowhere, in the map, or in the system's texts. Each case tells something: no plainer as an Option.
 #[derive(Clone, Copy, Debug, PartialEq, Eq)]
 pub enum SymbolText {
     Unknown,
@@ -34,10 +34,7 @@ fn lent_right(system: &[u8], limit: usize) -> Result<(), Refusal>
         });
     }
     if out_of_range(limit) {
-        return Err(Refusal {
-            reason: Reason::LimitOutOfRange,
-            position: 0,
-        });
+        return Err(LIMIT_OUT_OF_RANGE);
     }
     Ok(())
 }
@@ -56,10 +53,7 @@ pub fn symbols_at(
 {
     lent_right(system, limit)?;
     if outside(map, start, place) || outside(map, place, end) {
-        return Err(Refusal {
-            reason: Reason::Outside,
-            position: 0,
-        });
+        return Err(OUTSIDE);
     }
     let table = ruling_at(map, start, end, place, limit)?;
     own_list(map, table, limit)
@@ -79,10 +73,7 @@ pub fn symbol_text(
 {
     lent_right(system, limit)?;
     if outside(map, start, end) {
-        return Err(Refusal {
-            reason: Reason::Outside,
-            position: 0,
-        });
+        return Err(OUTSIDE);
     }
     text_in(map, id, Some(Span { start, end }), limit)
 }
@@ -105,7 +96,7 @@ pub fn text_of(
 }
 
 // The bytes of that text, as a part of one of the two slices: none where it is unknown or refused.
-#[tactic(auto, using(values::proofs::Tests::tests), unfolding(crate::specs::Text::text_part))]
+#[tactic(auto, using(crate::proofs::Told::parts_told, numbers::proofs::Parts::part_taken), unfolding(crate::specs::Text::text_part))]
 pub fn text_part<'a>(
     map: &'a [u8],
     system: &'a [u8],

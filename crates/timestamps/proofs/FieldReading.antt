@@ -137,15 +137,18 @@ module _ (s : List ℕ) (end at : ℕ) where
             }
 
         pub progress_last : next ≡ end → gives (record { fields = counted (count + 1) (set values count value); next = next }) ≡ fields_given (fields_from 6 s end at)
+        unfolding fields_given
         progress_last e =
             rw
             (p.same, left, fields_last s end from (take count values) (6 - (count + 1)) _ read e, ← taken, counted_is (set values count value) (count + 1) size (omega arith) zeros, e)
 
       pub progress_refused : (number position : ℕ) → var_uint s from end ≡ refuses number position → refuses number position ≡ fields_given (fields_from 6 s end at)
+      unfolding fields_given
       progress_refused number position r =
           rw (p.same, left, fields_refused s end from (take count values) (6 - (count + 1)) number position r)
 
     pub progress_done : 6 ≤ count → gives (record { fields = counted count values; next = from }) ≡ fields_given (fields_from 6 s end at)
+    unfolding fields_given
     progress_done h =
         let e : 6 - count ≡ 0 = omega arith in
         rw (p.same, e, fields_none s end from (take count values), counted_is values count p.size p.most p.zeros)
@@ -175,11 +178,13 @@ pub record FieldsFound (o : Outcome Values) (f : Fields) (next : ℕ) : Type 0 w
   pub fields : f ≡ fields_of values
 
 pub fields_found : (o : Outcome Values) {r : FieldsRead} → fields_given o ≡ gives r → FieldsFound o r.fields r.next
+unfolding fields_given
 fields_found (gives v) {r} e =
     let q : record { fields = fields_of v.values; next = v.next } ≡ r = cc in
     record { values = v.values; is = let n : v.next ≡ r.next = ap (λ (x : FieldsRead). x.next) q in rw (← n); fields = ap (λ (x : FieldsRead). x.fields) (sym q) }
 fields_found (refuses number position) e = absurd (let z : ◌≡◌ {A = ℕ} 0 1 = cc in omega arith)
 
 pub fields_cut : (o : Outcome Values) (n p : ℕ) → fields_given o ≡ refuses n p → o ≡ refuses n p
+unfolding fields_given
 fields_cut (gives v) n p h = absurd (let z : ◌≡◌ {A = ℕ} 0 1 = cc in omega arith)
 fields_cut (refuses number position) n p h = cc

@@ -1,12 +1,12 @@
--- Powers of ten: whether a number reaches one, digit by digit.
+-- Powers of ten: whether a number reaches one.
 -- Assumes nothing.
-use Prim.Native.Nat.{ℕ, ◌+◌, ◌-◌, ◌*◌, ◌/◌, ◌^◌, ◌≤◌, ◌<◌}
+use Prim.Native.Nat.{ℕ, ◌+◌, ◌*◌, ◌^◌, ◌≤◌, ◌<◌}
 use native.Mathlib.Omega.{arith}
 use native.Mathlib.Numerals.{add-one}
-use native.Mathlib.Nat.{pow-suc, pow-zero, pow-le-pow_right}
-use mathlib.Core.Path.{◌≡◌, ◌∙◌, ap}
+use native.Mathlib.Nat.{pow-suc, pow-le-pow_right}
+use mathlib.Core.Path.{◌≡◌, sym}
 use mathlib.Core.Bool.{false}
-use lib.Dec.{leb, ltb}
+use lib.Dec.{leb}
 use borrow.Author.Tests.{le-leb, lt-leb, leb-true, leb-false}
 use Rattle.numbers.proofs.Outcomes.{by_case}
 
@@ -18,15 +18,14 @@ power_positive n = pow-le-pow_right {n = 10} (omega arith) {i = 0} {j = n} (omeg
 pub below_power : (n x : ℕ) → x ≡ 0 → leb (10 ^ n) x ≡ false
 below_power n x e = lt-leb (10 ^ n) x (omega (arith, power_positive n))
 
--- a number without its last digit
-pub digit_less : (n x : ℕ) → 0 < n → leb (10 ^ (n - 1)) (x / 10) ≡ leb (10 ^ n) x
-digit_less n x h =
-    let e : n ≡ n - 1 + 1 = omega arith in
-    let p : 10 ^ n ≡ 10 ^ (n - 1) * 10 = ap (λ (k : ℕ). 10 ^ k) e ∙ rw (add-one (n - 1)) (pow-suc 10 (n - 1)) in
-    by_case (leb (10 ^ n) x)
-    (λ t. rw t (le-leb (10 ^ (n - 1)) (x / 10) (omega (arith, leb-true (10 ^ n) x t))))
-    (λ t. rw t (lt-leb (10 ^ (n - 1)) (x / 10) (omega (arith, leb-false (10 ^ n) x t))))
-
--- with no digits left to take away
-pub at_least_one : (n x : ℕ) → n ≡ 0 → ltb 0 x ≡ leb (10 ^ n) x
-at_least_one n x e = rw (e, pow-zero 10)
+-- by the greatest power of ten that a number is at least
+pub by_power : (n x k : ℕ) → 10 ^ k ≤ x → x < 10 * 10 ^ k → leb n k ≡ leb (10 ^ n) x
+by_power n x k l h =
+    by_case (leb n k)
+    (λ t.
+    let p : 10 ^ n ≤ 10 ^ k = pow-le-pow_right {n = 10} (omega arith) {i = n} {j = k} (leb-true n k t) in
+    rw t (sym (le-leb (10 ^ n) x (omega arith))))
+    (λ t.
+    let e : 10 ^ (k + 1) ≡ 10 ^ k * 10 = rw (add-one k) (pow-suc 10 k) in
+    let p : 10 ^ (k + 1) ≤ 10 ^ n = pow-le-pow_right {n = 10} (omega arith) {i = k + 1} {j = n} (omega (arith, leb-false n k t)) in
+    rw t (sym (lt-leb (10 ^ n) x (omega arith))))

@@ -13,6 +13,7 @@ use Rattle.timestamps.specs.Calendar.{days_in, DaysOf}
 use Rattle.timestamps.specs.Timestamp.{Encoded, out_of, year_out, month_out, day_out, date_out, time_out, fraction_out, offset_out, out_of_range}
 use Rattle.timestamps.specs.TimestampMeaning.{Between, FieldsWithin, FractionWithin, Within}
 use Rattle.timestamps.specs.declared.timestamp.Fields.{Fields}
+use Rattle.timestamps.specs.declared.timestamp.Offset.{Offset}
 use Rattle.timestamps.specs.Timestamp.{Fraction}
 use Rattle.timestamps.specs.Private.Reading.{Filled}
 use Rattle.timestamps.proofs.Gregorian.{months-sound, months-complete, days_most}
@@ -161,3 +162,28 @@ day_most {f} l w =
     (λ t.
     let d = w.day (ltb-false f.count 3 t) in
     omega (arith, months-complete f.year f.month d.0 d.1, days_most f.year f.month, d.2.most))
+
+-- the same of what passes the tests, as the tactics are to have it
+module _ (o : Offset) (f : Fields) (x : Fraction) (h : out_of_range (record { offset = o; fields = f; fraction = x }) ≡ false) where
+  pub offset_fits : o.minutes ≤ 1439
+  offset_fits = (within_sound _ h).offset
+
+  pub year_fits : f.year ≤ 9999
+  year_fits = (within_sound _ h).fields.year.most
+
+  pub month_fits : Filled f → f.month ≤ 12
+  month_fits l = month_most l (within_sound _ h).fields
+
+  pub day_fits : Filled f → f.day ≤ 31
+  day_fits l = day_most l (within_sound _ h).fields
+
+  pub hour_fits : f.hour ≤ 23
+  hour_fits = (within_sound _ h).fields.hour
+
+  pub minute_fits : f.minute ≤ 59
+  minute_fits = (within_sound _ h).fields.minute
+
+  pub second_fits : f.second ≤ 59
+  second_fits = (within_sound _ h).fields.second
+
+pub ruleset fields_fit = (offset_fits, year_fits, month_fits, day_fits, hour_fits, minute_fits, second_fits)

@@ -1,12 +1,10 @@
-// Timestamps: a body read into its offset, its fields in UTC and its fraction.
+// Timestamps: a body read into its offset, its fields in UTC and its fraction. Each function takes the slice and a part of it, as in `bodies`.
 ghost use Rattle.std.specs.Prelude.{◌≡◌, ◌∷◌, ◌≤◌, ◌^◌, length, leb};
 ghost use Rattle.numbers.specs.Format.{of_digits};
-ghost use Rattle.numbers.specs.Outcome.{and_then};
 ghost use Rattle.numbers.specs.Read.{outcome};
-ghost use Rattle.bodies.specs.Decimal.{decimal};
 ghost use Rattle.timestamps.specs.Timestamp.{date_out, time_out, fraction_out, out_of_range, precision_of, offset_of, ranged};
-ghost use Rattle.timestamps.specs.Timestamp.{fields_from, fraction_from, timestamp, timestamp_read};
-ghost use Rattle.timestamps.specs.Private.Reading.{Filled, fields_given, fields_read, fraction_read, magnitude_answer, measured};
+ghost use Rattle.timestamps.specs.Timestamp.{fields_from, timestamp, timestamp_read};
+ghost use Rattle.timestamps.specs.Private.Reading.{Filled, fields_given, fields_read, fraction_read, magnitude_answer, measured_from};
 
 use crate::calendar::days_in;
 use bodies::decimal;
@@ -14,7 +12,9 @@ use numbers::binary_buffer;
 use numbers::refusal::{Reason, Refusal};
 
 // How far a timestamp goes (1 year, 2 month, 3 day, 4 minute, 5 second, 6 fraction), its offset's minutes and 1440 or 0
-// where it is unknown, its fields in UTC, absent ones 0, and its fraction's exponent and coefficient.
+// where it is unknown, its fields in UTC, absent ones 0, and its fraction's exponent and coefficient. Numbers and zeros,
+// as the record of a stamp that C is given has them; the exponent's sign is beside its magnitude, as the definition of an
+// answer has it.
 #[derive(Clone, Copy, Debug, PartialEq, Eq)]
 pub struct Stamp {
     pub precision: u8,
@@ -30,15 +30,15 @@ pub struct Stamp {
     pub coefficient: u64,
 }
 
-// The offset's VarInt.
-#[derive(Clone, Copy)]
+// The offset's VarInt: its sign beside its magnitude, as the definition of an answer has them.
+#[derive(Clone, Copy, Debug, PartialEq, Eq)]
 pub struct Offset {
     pub negative: bool,
     pub minutes: usize,
 }
 
 // The fields that were read, how many they are, and 0, no `None`, for each of the others: a stamp has them so, and the record of a stamp that C is given.
-#[derive(Clone, Copy)]
+#[derive(Clone, Copy, Debug, PartialEq, Eq)]
 pub struct Fields {
     pub count: usize,
     pub year: usize,
@@ -49,8 +49,8 @@ pub struct Fields {
     pub second: usize,
 }
 
-// A fraction's exponent, and its coefficient's sign and magnitude.
-#[derive(Clone, Copy)]
+// A fraction's exponent and its coefficient: each a sign beside a magnitude, as the definition of an answer has them.
+#[derive(Clone, Copy, Debug, Default, PartialEq, Eq)]
 pub struct Fraction {
     pub exponent_negative: bool,
     pub exponent: usize,
@@ -87,18 +87,12 @@ fn time_out(fields: Fields) -> bool
 }
 
 // Whether a coefficient is at least ten to the power of `places`.
-#[tactic(auto, using(crate::proofs::Powers::digit_less, crate::proofs::Powers::below_power, crate::proofs::Powers::at_least_one))]
+#[tactic(auto, using(crate::proofs::Powers::by_power, crate::proofs::Powers::below_power))]
 fn reaches_one(coefficient: u64, places: usize) -> bool
     ensures { result ≡ leb (10 ^ places) coefficient }
 {
-    let mut whole = coefficient;
-    for _ in 0..places {
-        if whole == 0 {
-            return false;
-        }
-        whole /= 10;
-    }
-    0 < whole
+    // (`as`: std has no `From` of a `u32` for a `usize`.)
+    coefficient != 0 && places <= coefficient.ilog10() as usize
 }
 
 // Whether the fraction is below 0 or at least 1.
@@ -125,7 +119,7 @@ fn out_of_range(offset: Offset, fields: Fields, fraction: Option<Fraction>) -> b
     1439 < offset.minutes || date_out(fields) || time_out(fields) || fraction_out(fraction)
 }
 
-// How far a timestamp with so many fields goes.
+// How far a timestamp with so many fields goes. (`as`: six at most, which is proved to fit.)
 #[tactic(auto, unfolding(crate::specs::Timestamp::precision_of))]
 fn precision_of(count: usize, fraction: bool) -> u8
     requires { count ≤ 6 }
@@ -140,7 +134,7 @@ fn precision_of(count: usize, fraction: bool) -> u8
     count as u8
 }
 
-// The offset's minutes and 1440; 0 where it is unknown.
+// The offset's minutes and 1440; 0 where it is unknown. (`as`: 1439 minutes at most, which is proved to fit.)
 #[tactic(auto, unfolding(crate::specs::Timestamp::offset_of))]
 fn offset_of(offset: Offset, count: usize) -> u16
     requires { offset.minutes ≤ 1439 }
@@ -156,7 +150,8 @@ fn offset_of(offset: Offset, count: usize) -> u16
     if minutes == 0 { 0 } else { 1440 - minutes }
 }
 
-// What was read as an answer, where all of it is in range.
+// What was read as an answer, where all of it is in range. (`as`: the ranges say that each field fits, where `try_from` would have an error that never comes.)
+#[tactic(auto, using(crate::proofs::Ranges::fields_fit), unfolding(crate::specs::Timestamp::ranged, crate::specs::Timestamp::stamp_of))]
 fn answer_in_range(
     descriptor: usize,
     offset: Offset,
@@ -173,18 +168,12 @@ fn answer_in_range(
         });
     }
     let precision = precision_of(fields.count, fraction.is_some());
-    let absent = Fraction {
-        exponent_negative: false,
-        exponent: 0,
-        negative: false,
-        coefficient: 0,
-    };
     let Fraction {
         exponent_negative,
         exponent,
         coefficient,
         ..
-    } = fraction.unwrap_or(absent);
+    } = fraction.unwrap_or_default();
     Ok(Stamp {
         precision,
         offset: offset_of(offset, fields.count),
@@ -213,6 +202,7 @@ fn read_magnitude(first: u8, rest: &[u8]) -> Option<u64>
 }
 
 // The fraction in the bytes at..end that the fields leave: none where they leave none.
+#[tactic(auto, using(crate::proofs::Stamps::fraction_told, bodies::proofs::Splitting::split_rest), unfolding(crate::specs::Private::Reading::measured_from))]
 fn read_fraction(
     s: &[u8],
     at: usize,
@@ -220,7 +210,7 @@ fn read_fraction(
     descriptor: usize,
 ) -> Result<Option<Fraction>, Refusal>
     requires { (at ≤ end) × (end ≤ length s.now) }
-    ensures { outcome fraction_read result ≡ and_then (decimal s.now at end) (λ d. measured descriptor (fraction_from s.now end at d)) }
+    ensures { outcome fraction_read result ≡ measured_from descriptor s.now end at }
 {
     if at == end {
         return Ok(None);
@@ -252,7 +242,9 @@ struct FieldsRead {
 fn read_fields(s: &[u8], at: usize, end: usize) -> Result<FieldsRead, Refusal>
     ensures { fields_read result ≡ fields_given (fields_from 6 s.now end at) }
 {
+    // Six places, since there is no heap: a stamp has a 0 for each field that was not read.
     let mut values = [0usize; 6];
+    // Counted beside the `for`: it is asked for behind the loop, and the index of an `enumerate` would be kept in a variable all the same.
     let mut count = 0;
     let mut next = at;
     for value in &mut values {
@@ -279,6 +271,7 @@ fn read_fields(s: &[u8], at: usize, end: usize) -> Result<FieldsRead, Refusal>
 
 // Reads the timestamp whose body is start..end. Faults of what is read as a whole, and not of one of its numbers, are at
 // `descriptor`, where the value's descriptor stands.
+#[tactic(auto, using(crate::proofs::Stamps::stamp_told), unfolding(crate::specs::Timestamp::timestamp, crate::specs::Timestamp::encoded))]
 pub fn read_timestamp(
     s: &[u8],
     start: usize,

@@ -1,11 +1,11 @@
 -- A value that an entry frames, and the part that a reading of it gives, lie in the slice.
 -- Assumes nothing.
-use Prim.Native.Nat.{ℕ, ◌-◌, ◌≤◌}
+use Prim.Native.Nat.{ℕ, ◌-◌, ◌^◌, ◌<◌, ◌≤◌}
 use native.Mathlib.Omega.{arith}
-use mathlib.Core.Path.{◌≡◌, sym, subst}
+use mathlib.Core.Path.{◌≡◌}
 use mathlib.Core.Bool.{Bool, not}
 use mathlib.Core.List.{List}
-use lib.ListN.{length}
+use lib.ListN.{length, get_or}
 use lib.Dec.{ltb, eqb}
 use Rattle.numbers.specs.Outcome.{Outcome, gives}
 use Rattle.numbers.proofs.Outcomes.{Each, given, each_refuse, each_pick, each_then, each_map, each_of, refused}
@@ -15,9 +15,12 @@ use Rattle.framing.specs.Answers.{read_value}
 use Rattle.framing.proofs.Bounds.{peeked_each, value_each}
 use Rattle.bodies.specs.Utf8.{utf8}
 use Rattle.bodies.specs.Magnitude.{significant_from}
+use Rattle.numbers.specs.Bytes.{part}
+use Rattle.numbers.specs.Format.{uint_of}
+use Rattle.bodies.specs.Uint.{uint_in}
+use Rattle.bodies.proofs.BigEndian.{uint_inside, uint_below}
 use Rattle.bodies.proofs.Leading.{significant_begins}
 use Rattle.values.specs.Scalars.{value_in, type_of, code_of, Scalar, int, bool_of, positive_of, negative_of, float_of, symbol_of, string_of, typed_of, scalar_of, read_scalar, span_of}
-use Rattle.values.specs.declared.value.Span.{Span}
 
 pub record InSlice (s : List ℕ) (v : Spans) : Type 0 where
   pub order : v.body ≤ v.end
@@ -35,8 +38,12 @@ unfolding value_in
 value_in_each limit s start end at =
     each_refuse (out_of_range limit) 68 0 (λ _. each_refuse (ltb at start) 50 0 (λ _. value_in_slice limit s at end))
 
-pub framed_placed : (limit : ℕ) (s : List ℕ) (start end at : ℕ) {v : Spans} → value_in limit s start end at ≡ gives v → (v.body ≤ v.end) × (v.end ≤ length s)
-framed_placed limit s start end at e = let i = each_of (value_in_each limit s start end at) e in (i.order, i.within)
+module _ (limit : ℕ) (s : List ℕ) (start end at : ℕ) (v : Spans) where
+  pub framed_order : value_in limit s start end at ≡ gives v → v.body ≤ v.end
+  framed_order e = (each_of (value_in_each limit s start end at) e).order
+
+  pub framed_within : value_in limit s start end at ≡ gives v → v.end ≤ length s
+  framed_within e = (each_of (value_in_each limit s start end at) e).within
 
 -- a reading's span
 pub record SpanIn (s : List ℕ) (x : Scalar) : Type 0 where
@@ -76,6 +83,15 @@ each_span : (s : List ℕ) {o : Outcome Scalar} → Each (SpanIn s) o → ((span
 each_span s (given i) = (i.order, i.within)
 each_span s refused = (omega arith, omega arith)
 
-pub read_span : (limit : ℕ) (s : List ℕ) (start end at : ℕ) {x : Span} → x ≡ span_of (read_scalar limit s start end at) → (x.start ≤ x.end) × (x.end ≤ length s)
-read_span limit s start end at q =
-    subst (λ (x : Span). (x.start ≤ x.end) × (x.end ≤ length s)) (sym q) (each_span s (read_each limit s start end at))
+module _ (limit : ℕ) (s : List ℕ) (start end at : ℕ) where
+  pub span_order : (span_of (read_scalar limit s start end at)).start ≤ (span_of (read_scalar limit s start end at)).end
+  span_order = (each_span s (read_each limit s start end at)).0
+
+  pub span_within : (span_of (read_scalar limit s start end at)).end ≤ length s
+  span_within = (each_span s (read_each limit s start end at)).1
+
+-- four bytes are a number below 2 ^ 32
+pub four_fit : (s : List ℕ) (at end : ℕ) → ((i : ℕ) → get_or s i 0 < 256) → end - at ≡ 4 → at ≤ end → end ≤ length s → uint_in s at end < 2 ^ 32
+four_fit s at end bytes four order within =
+    let below : uint_of (part s at end) < 256 ^ (end - at) = uint_below s bytes at end order within in
+    rw (uint_inside s at end order within (omega arith)) (rw four at below)

@@ -2,8 +2,9 @@
 //
 // Each takes a part of the slice, start..end, the position in it of the value's wrapper or descriptor, and the most bytes that a value's annotations may have:
 // five parameters and no struct of them, since the exports to C hand them on as they came.
-ghost use Rattle.std.specs.Prelude.{◌≡◌, ◌≤◌, ◌<◌, length, false, eqb};
+ghost use Rattle.std.specs.Prelude.{◌≡◌, ◌≤◌, ◌<◌, length, false, eqb, IfOk};
 ghost use Rattle.numbers.specs.Outcome.{gives, pick};
+ghost use Rattle.numbers.specs.Read.{outcome};
 ghost use Rattle.timestamps.specs.Timestamp.{timestamp};
 ghost use Rattle.framing.specs.Read.{framed_read, spans_of};
 ghost use Rattle.stepping.specs.Read.{item_read};
@@ -19,7 +20,8 @@ use bodies::utf8::is_utf8;
 use framing::encoded_value::EncodedValue;
 use framing::limits::out_of_range;
 use numbers::binary_buffer::outside;
-use numbers::refusal::{Reason, Refusal};
+use numbers::refusal::{LIMIT_OUT_OF_RANGE, OUTSIDE, Reason, Refusal};
+use numbers::type_descriptor::FIRST_NO_PAD;
 use stepping::cursor::{Cursor, Item, Rules, item_at};
 use timestamps::timestamp::{Stamp, read_timestamp as read_body};
 
@@ -76,7 +78,7 @@ pub struct ValueRead {
     pub scalar: Result<Scalar, Refusal>,
 }
 
-// What a value is read as where timestamps are read.
+// What a value is read as where timestamps are read. Each case tells something: no plainer as an Option.
 #[derive(Clone, Copy, Debug, PartialEq, Eq)]
 pub enum TimestampRead {
     // A timestamp: where its descriptor stands, and what it says.
@@ -84,9 +86,6 @@ pub enum TimestampRead {
     // A null or another type: its spans and its scalar.
     Other { value: EncodedValue, scalar: Scalar },
 }
-
-// The first descriptor byte that begins no pad.
-const FIRST_NO_PAD: u8 = 15;
 
 // The type code of a timestamp: this and those below are the document's own numbers.
 const TIMESTAMP: u8 = 6;
@@ -108,7 +107,7 @@ fn value_of(at: usize, item: Result<Item, Refusal>) -> Result<EncodedValue, Refu
 }
 
 // The value at `at` in the part start..end: what a step in a sequence answers there, but that a pad is refused.
-#[tactic(auto, using(crate::proofs::Valued::tested))]
+#[tactic(auto, using(crate::proofs::Valued::tested, crate::proofs::Valued::in_slice))]
 pub fn value_in(
     s: &[u8],
     start: usize,
@@ -119,16 +118,10 @@ pub fn value_in(
     ensures { framed_read result ≡ value_in limit s.now start end at }
 {
     if out_of_range(limit) {
-        return Err(Refusal {
-            reason: Reason::LimitOutOfRange,
-            position: 0,
-        });
+        return Err(LIMIT_OUT_OF_RANGE);
     }
     if at < start || outside(s, at, end) {
-        return Err(Refusal {
-            reason: Reason::Outside,
-            position: 0,
-        });
+        return Err(OUTSIDE);
     }
     if at == end {
         return Err(Refusal {
@@ -145,7 +138,7 @@ pub fn value_in(
     value_of(at, item_at(Rules::Sequence, s, at, end, limit))
 }
 
-// Whether a value is of a type, by its code, and not null.
+// Whether a value is of a type, by its code, and not null. By the byte's halves, here and below: a descriptor would be made with its kind for each test.
 #[tactic(auto, using(crate::proofs::Tests::tests))]
 pub fn is_typed(value: EncodedValue, type_code: u8) -> bool
     ensures { result ≡ pick (eqb (code_of (spans_of value)) 15) false (eqb (type_of (spans_of value)) type_code) }
@@ -206,6 +199,8 @@ fn read_bool(value: EncodedValue) -> Result<Scalar, Refusal>
     Ok(Scalar::Bool(code == 1))
 }
 
+// A positive int, and below a negative one: two functions, as the document has two types, of which only the second has a reading that is refused.
+// No methods of `Placed`, as `read_string` below: they ask nothing of where the value lies.
 #[tactic(auto, using(crate::proofs::Tests::tests), unfolding(crate::specs::Scalars::positive_of))]
 fn read_positive(s: &[u8], value: EncodedValue) -> Scalar
     ensures { gives (scalar_told result) ≡ positive_of s.now (spans_of value) }
@@ -239,7 +234,9 @@ fn read_negative(s: &[u8], value: EncodedValue) -> Result<Scalar, Refusal>
     })
 }
 
-#[tactic(auto, using(crate::proofs::Tests::tests), unfolding(crate::specs::Scalars::float_of))]
+// Four bytes are proved to fit a `u32`. That takes what each byte is at most, which is known of a slice that is a parameter and not of one in a struct: so
+// this is no method of `Placed`, and has its facts as a `requires`.
+#[tactic(auto, using(crate::proofs::Tests::tests, crate::proofs::Reading::four_fit), unfolding(crate::specs::Scalars::float_of))]
 fn read_float(s: &[u8], value: EncodedValue) -> Scalar
     requires { (value.body ≤ value.end) × (value.end ≤ length s.now) }
     ensures { gives (scalar_told result) ≡ float_of s.now (spans_of value) }
@@ -289,6 +286,22 @@ struct Placed<'a> {
 }
 
 impl<'a> Placed<'a> {
+    // The value at `at` in the part start..end.
+    #[tactic(auto, using(crate::proofs::Reading::framed_order, crate::proofs::Reading::framed_within))]
+    fn at(
+        s: &'a [u8],
+        start: usize,
+        end: usize,
+        at: usize,
+        limit: usize,
+    ) -> Result<Placed<'a>, Refusal>
+        ensures value { outcome (λ p. spans_of p.value) result ≡ value_in limit s.now start end at }
+        ensures slice { IfOk result (λ p. p.s.now ≡ s.now) }
+    {
+        let value = value_in(s, start, end, at, limit)?;
+        Ok(Placed { s, value })
+    }
+
     #[tactic(auto, using(crate::proofs::Tests::tests), unfolding(crate::specs::Scalars::symbol_of))]
     fn symbol(self) -> Result<Scalar, Refusal>
         ensures { scalar_read result ≡ symbol_of self.entry.s.now (spans_of self.entry.value) }
@@ -356,15 +369,12 @@ impl<'a> Placed<'a> {
 }
 
 // Reads a value whose places are known.
-#[tactic(auto, using(crate::proofs::Tests::tests), unfolding(crate::specs::Scalars::scalar_in))]
+#[tactic(auto, using(numbers::proofs::Outcomes::inside_order, numbers::proofs::Outcomes::inside_end), unfolding(crate::specs::Scalars::scalar_in))]
 pub fn read_placed(s: &[u8], value: EncodedValue) -> Result<Scalar, Refusal>
     ensures { scalar_read result ≡ scalar_in s.now (spans_of value) }
 {
     if outside(s, value.body, value.end) {
-        return Err(Refusal {
-            reason: Reason::Outside,
-            position: 0,
-        });
+        return Err(OUTSIDE);
     }
     Placed { s, value }.scalar()
 }
@@ -380,9 +390,11 @@ pub fn read_with_value(
 ) -> Result<ValueRead, Refusal>
     ensures { value_read result ≡ read_with_value limit s.now start end at }
 {
-    let value = value_in(s, start, end, at, limit)?;
-    let scalar = Placed { s, value }.scalar();
-    Ok(ValueRead { value, scalar })
+    let placed = Placed::at(s, start, end, at, limit)?;
+    Ok(ValueRead {
+        value: placed.value,
+        scalar: placed.scalar(),
+    })
 }
 
 // Reads the value at `at`.
@@ -390,8 +402,7 @@ pub fn read_with_value(
 pub fn read(s: &[u8], start: usize, end: usize, at: usize, limit: usize) -> Result<Scalar, Refusal>
     ensures { scalar_read result ≡ read_scalar limit s.now start end at }
 {
-    let value = value_in(s, start, end, at, limit)?;
-    Placed { s, value }.scalar()
+    Placed::at(s, start, end, at, limit)?.scalar()
 }
 
 // Reads the value at `at`, and what it says where it is a timestamp.
@@ -405,11 +416,10 @@ pub fn read_timestamp(
 ) -> Result<TimestampRead, Refusal>
     ensures { dated_read result ≡ read_timestamp limit s.now start end at }
 {
-    let value = value_in(s, start, end, at, limit)?;
-    Placed { s, value }.timestamp()
+    Placed::at(s, start, end, at, limit)?.timestamp()
 }
 
-// The span of a reading's part, which is empty where it has none or is refused.
+// The span of a reading's part, which is empty where it has none or is refused: zeros, and no `None`, as the definition has them.
 fn span_of(scalar: Result<Scalar, Refusal>) -> Span
     ensures { result ≡ span_of (scalar_read scalar) }
 {
@@ -431,7 +441,7 @@ fn span_of(scalar: Result<Scalar, Refusal>) -> Span
 
 // The bytes of that reading's part of the slice: a string's, clob's, blob's, decimal's or timestamp's body, or an int's
 // magnitude; none where it refuses or has no part.
-#[tactic(auto, using(crate::proofs::Tests::tests), unfolding(crate::specs::Scalars::scalar_part))]
+#[tactic(auto, using(crate::proofs::Reading::span_order, crate::proofs::Reading::span_within, numbers::proofs::Parts::part_taken), unfolding(crate::specs::Scalars::scalar_part))]
 pub fn read_part(s: &[u8], start: usize, end: usize, at: usize, limit: usize) -> &[u8]
     ensures { result.now ≡ scalar_part limit s.now start end at }
 {

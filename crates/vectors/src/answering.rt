@@ -10,11 +10,6 @@ use std::alloc::{AllocError, Global};
 use std::fmt;
 use stepping::cursor::Cursor;
 
-// The limits where a question says none.
-const ANNOTATION_LIMIT: usize = 255;
-
-const DEPTH_LIMIT: usize = 32;
-
 // The part at..end of a question's bytes.
 #[derive(Clone, Copy)]
 pub struct Part<'a> {
@@ -23,28 +18,28 @@ pub struct Part<'a> {
     pub end: usize,
 }
 
-// Why there is nothing else to say.
+// Why there is nothing else to say. Both `From` are written out: what derives them wants each case to be an `Error`, and a refusal is none.
 #[derive(Drop)]
-pub enum Nothing {
-    Refused(Refusal),
+pub enum Failure {
+    Refusal(Refusal),
     OutOfMemory(AllocError),
 }
 
-impl From<Refusal> for Nothing {
+impl From<Refusal> for Failure {
     fn from(refusal: Refusal) -> Self {
-        Nothing::Refused(refusal)
+        Failure::Refusal(refusal)
     }
 }
 
-impl From<AllocError> for Nothing {
+impl From<AllocError> for Failure {
     fn from(error: AllocError) -> Self {
-        Nothing::OutOfMemory(error)
+        Failure::OutOfMemory(error)
     }
 }
 
-pub type Answer = Result<String, Nothing>;
+pub type Answer = Result<String, Failure>;
 
-// A refusal in words.
+// A refusal in words, as `listing` has it in its lines: a copy, so that a change there is seen here.
 #[derive(Clone, Copy)]
 pub struct Refused(pub Refusal);
 
@@ -54,7 +49,7 @@ impl fmt::Display for Refused {
     }
 }
 
-// The word for a sign.
+// The word for a sign: with `int_type` of writing, which gives a code, it shares an `if` alone.
 pub fn sign(negative: bool) -> &'static str {
     if negative { "negative" } else { "positive" }
 }
@@ -67,70 +62,51 @@ pub fn join<D: fmt::Display>(line: &mut String, item: &D) -> Result<(), AllocErr
     write!(line, "{item}")
 }
 
-pub fn limit(words: &mut Words) -> usize {
-    words.number_or(ANNOTATION_LIMIT)
-}
-
-fn depth(words: &mut Words) -> usize {
-    words.number_or(DEPTH_LIMIT)
-}
-
-fn answer_asked(alloc: Global, asked: Asked, words: &mut Words) -> Answer {
-    let bytes = words.bytes(alloc)?;
+// One arm for each question: a table in its place would hand out function pointers, which the check refuses.
+fn answer_asked(asked: Asked, words: &mut Words) -> Answer {
+    let bytes = words.bytes()?;
     let at = words.number();
     let end = words.number();
     let part = Part { s: &bytes, at, end };
     match asked {
-        Asked::VarUInt => number_questions::var_uint(alloc, part),
-        Asked::VarInt => number_questions::var_int(alloc, part),
-        Asked::Int => number_questions::int(alloc, part, words.number()),
-        Asked::IntParts => number_questions::int_parts(alloc, part, words.number()),
-        Asked::Descriptor => number_questions::descriptor(alloc, &bytes),
-        Asked::Length => frame_questions::length(alloc, part),
-        Asked::Pad => frame_questions::pad(alloc, part),
-        Asked::Wrapper => frame_questions::wrapper(alloc, part, limit(words)),
-        Asked::Value => frame_questions::value(alloc, part, limit(words)),
-        Asked::Frame => frame_questions::frame(alloc, part, limit(words)),
-        Asked::Annotations => frame_questions::annotations(alloc, part, words.number()),
-        Asked::Decimal => decimal_questions::decimal(alloc, part),
-        Asked::DecimalParts => decimal_questions::decimal_parts(alloc, part),
-        Asked::DecimalRest => decimal_questions::decimal_rest(alloc, part),
-        Asked::Timestamp => timestamp_questions::timestamp(alloc, part, words.number()),
-        Asked::Instant => timestamp_questions::instant(alloc, part),
-        Asked::Check => check_questions::check(alloc, &bytes, ANNOTATION_LIMIT, DEPTH_LIMIT),
-        Asked::Walk => {
-            let limit = limit(words);
-            walk_questions::walk(alloc, part, limit, depth(words))
-        }
-        Asked::Scalar => {
-            let position = words.number();
-            scalar_questions::scalar(alloc, part, position, limit(words))
-        }
-        Asked::Part => {
-            let position = words.number();
-            scalar_questions::read_part(alloc, part, position, limit(words))
-        }
-        Asked::StepIn => {
-            let position = words.number();
-            scalar_questions::step_in(alloc, part, position, limit(words))
-        }
-        Asked::Stream => step_questions::steps(alloc, part, words, Cursor::next_in_stream),
-        Asked::Sequence => step_questions::steps(alloc, part, words, Cursor::next_in_sequence),
-        Asked::Struct => step_questions::steps(alloc, part, words, Cursor::next_in_struct),
-        Asked::StreamLeft => step_questions::left(alloc, part, words, Cursor::next_in_stream),
-        Asked::SequenceLeft => step_questions::left(alloc, part, words, Cursor::next_in_sequence),
-        Asked::StructLeft => step_questions::left(alloc, part, words, Cursor::next_in_struct),
+        Asked::VarUInt => number_questions::var_uint(part, words),
+        Asked::VarInt => number_questions::var_int(part, words),
+        Asked::Int => number_questions::int(part, words),
+        Asked::IntParts => number_questions::int_parts(part, words),
+        Asked::Descriptor => number_questions::descriptor(part, words),
+        Asked::Length => frame_questions::length(part, words),
+        Asked::Pad => frame_questions::pad(part, words),
+        Asked::Wrapper => frame_questions::wrapper(part, words),
+        Asked::Value => frame_questions::value(part, words),
+        Asked::Frame => frame_questions::frame(part, words),
+        Asked::Annotations => frame_questions::annotations(part, words),
+        Asked::Stream => step_questions::steps(part, words, Cursor::next_in_stream),
+        Asked::Sequence => step_questions::steps(part, words, Cursor::next_in_sequence),
+        Asked::Struct => step_questions::steps(part, words, Cursor::next_in_struct),
+        Asked::StreamLeft => step_questions::left(part, words, Cursor::next_in_stream),
+        Asked::SequenceLeft => step_questions::left(part, words, Cursor::next_in_sequence),
+        Asked::StructLeft => step_questions::left(part, words, Cursor::next_in_struct),
+        Asked::Scalar => scalar_questions::scalar(part, words),
+        Asked::Part => scalar_questions::read_part(part, words),
+        Asked::StepIn => scalar_questions::step_in(part, words),
+        Asked::Decimal => decimal_questions::decimal(part, words),
+        Asked::DecimalParts => decimal_questions::decimal_parts(part, words),
+        Asked::DecimalRest => decimal_questions::decimal_rest(part, words),
+        Asked::Timestamp => timestamp_questions::timestamp(part, words),
+        Asked::Instant => timestamp_questions::instant(part, words),
+        Asked::Walk => walk_questions::walk(part, words),
+        Asked::Check => check_questions::check(part, words),
     }
 }
 
 pub fn answer(alloc: Global, question: &str) -> Result<String, AllocError> {
-    let words = &mut Words::of(question);
+    let words = &mut Words::of(alloc, question);
     let Ok(asked) = words.word().unwrap_or("").parse() else {
         return String::from_str(alloc, "no such question");
     };
-    match answer_asked(alloc, asked, words) {
+    match answer_asked(asked, words) {
         Ok(said) => Ok(said),
-        Err(Nothing::Refused(refusal)) => format!(in alloc; "{}", Refused(refusal)),
-        Err(Nothing::OutOfMemory(error)) => Err(error),
+        Err(Failure::Refusal(refusal)) => format!(in alloc; "{}", Refused(refusal)),
+        Err(Failure::OutOfMemory(error)) => Err(error),
     }
 }

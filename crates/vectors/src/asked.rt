@@ -35,6 +35,7 @@ pub enum Asked {
 #[derive(Clone, Copy, Debug)]
 pub struct NoSuchQuestion;
 
+// `Function` of `maps_cases` is read the same way: they share the trait and no name, and one table looked through for both would be no plainer.
 impl FromStr for Asked {
     type Err = NoSuchQuestion;
 

@@ -3,15 +3,15 @@ use crate::answering::{Answer, Part, sign};
 use crate::number_questions::magnitude;
 use bodies::decimal::{read_decimal, read_decimal_rest};
 use questions::hexadecimal::Hexadecimal;
-use std::alloc::Global;
+use questions::words::Words;
 
 // `decimal BYTES START END`: sign and magnitude of the exponent, and of the coefficient.
-pub fn decimal(alloc: Global, part: Part) -> Answer {
+pub fn decimal(part: Part, words: &mut Words) -> Answer {
     let decimal = read_decimal(part.s, part.at, part.end)?;
     let coefficient = decimal.coefficient;
     let rest = read_decimal_rest(part.s, part.at, part.end);
-    let bytes = magnitude(alloc, coefficient.first, rest)?;
-    Ok(format!(in alloc;
+    let bytes = magnitude(words.alloc, coefficient.first, rest)?;
+    Ok(format!(in words.alloc;
         "{} {} {} {}",
         sign(decimal.exponent_negative),
         decimal.exponent,
@@ -22,10 +22,10 @@ pub fn decimal(alloc: Global, part: Part) -> Answer {
 
 // `decimalparts BYTES START END`: sign and magnitude of the exponent; of the coefficient the sign, the low seven bits of its
 // first byte, and the span of the bytes after it.
-pub fn decimal_parts(alloc: Global, part: Part) -> Answer {
+pub fn decimal_parts(part: Part, words: &mut Words) -> Answer {
     let decimal = read_decimal(part.s, part.at, part.end)?;
     let coefficient = decimal.coefficient;
-    Ok(format!(in alloc;
+    Ok(format!(in words.alloc;
         "{} {} {} {} {} {}",
         sign(decimal.exponent_negative),
         decimal.exponent,
@@ -37,7 +37,7 @@ pub fn decimal_parts(alloc: Global, part: Part) -> Answer {
 }
 
 // `decimalrest BYTES START END`: the bytes after the coefficient's first one, `-` where there are none.
-pub fn decimal_rest(alloc: Global, part: Part) -> Answer {
+pub fn decimal_rest(part: Part, words: &mut Words) -> Answer {
     let rest = read_decimal_rest(part.s, part.at, part.end);
-    Ok(format!(in alloc; "{}", Hexadecimal(rest))?)
+    Ok(format!(in words.alloc; "{}", Hexadecimal(rest))?)
 }

@@ -4,29 +4,30 @@ use framing::annotations_iterator::{Annotation, read_annotation};
 use framing::binary_buffer;
 use framing::encoded_value::{AnnotationsWrapper, EncodedValue, Frame, Length, NopPad};
 use numbers::refusal::Refusal;
-use std::alloc::Global;
+use questions::words::{ANNOTATION_LIMIT, Words};
 use std::fmt;
 
 // `length BYTES AT END`: where the value's body starts, and its length.
-pub fn length(alloc: Global, part: Part) -> Answer {
+pub fn length(part: Part, words: &mut Words) -> Answer {
     let Length { body, size } = binary_buffer::read_value_length(part.s, part.at, part.end)?;
-    Ok(format!(in alloc; "{body} {size}")?)
+    Ok(format!(in words.alloc; "{body} {size}")?)
 }
 
 // `pad BYTES AT END`: where the pad ends.
-pub fn pad(alloc: Global, part: Part) -> Answer {
+pub fn pad(part: Part, words: &mut Words) -> Answer {
     let pad = binary_buffer::read_nop_pad(part.s, part.at, part.end)?;
-    Ok(format!(in alloc; "{}", pad.end)?)
+    Ok(format!(in words.alloc; "{}", pad.end)?)
 }
 
 // `wrapper BYTES AT END LIMIT`: where the annotations start and end, and how long the value is to be.
-pub fn wrapper(alloc: Global, part: Part, limit: usize) -> Answer {
+pub fn wrapper(part: Part, words: &mut Words) -> Answer {
+    let limit = words.number_or(ANNOTATION_LIMIT);
     let AnnotationsWrapper {
         annotations,
         value,
         expected,
     } = binary_buffer::read_annotations_wrapper(part.s, part.at, part.end, limit)?;
-    Ok(format!(in alloc; "{annotations} {value} {expected}")?)
+    Ok(format!(in words.alloc; "{annotations} {value} {expected}")?)
 }
 
 // A value's own byte, and its places.
@@ -51,16 +52,18 @@ impl fmt::Display for Places {
 }
 
 // `value BYTES AT END LIMIT`: the value at AT.
-pub fn value(alloc: Global, part: Part, limit: usize) -> Answer {
+pub fn value(part: Part, words: &mut Words) -> Answer {
+    let limit = words.number_or(ANNOTATION_LIMIT);
     let value = binary_buffer::read_value(part.s, part.at, part.end, limit)?;
-    Ok(format!(in alloc; "{}", Places(value))?)
+    Ok(format!(in words.alloc; "{}", Places(value))?)
 }
 
 // `frame BYTES AT END LIMIT`: the same, or a pad's body.
-pub fn frame(alloc: Global, part: Part, limit: usize) -> Answer {
+pub fn frame(part: Part, words: &mut Words) -> Answer {
+    let limit = words.number_or(ANNOTATION_LIMIT);
     match binary_buffer::read_frame(part.s, part.at, part.end, limit)? {
-        Frame::Pad(NopPad { body, end }) => Ok(format!(in alloc; "pad {body} {end}")?),
-        Frame::Value(value) => Ok(format!(in alloc; "{}", Places(value))?),
+        Frame::Pad(NopPad { body, end }) => Ok(format!(in words.alloc; "pad {body} {end}")?),
+        Frame::Value(value) => Ok(format!(in words.alloc; "{}", Places(value))?),
     }
 }
 
@@ -79,8 +82,9 @@ impl fmt::Display for Said {
 }
 
 // `annotations BYTES AT END COUNT`: what so many annotation steps say, each from where the one before left. The end and a refusal leave the cursor.
-pub fn annotations(alloc: Global, part: Part, count: usize) -> Answer {
-    let mut line = String::new(alloc);
+pub fn annotations(part: Part, words: &mut Words) -> Answer {
+    let count: usize = words.number();
+    let mut line = String::new(words.alloc);
     let mut from = part.at;
     for _ in 0..count {
         let step = read_annotation(part.s, from, part.end);

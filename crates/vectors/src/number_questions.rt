@@ -6,34 +6,36 @@ use numbers::type_descriptor::{Kind, TypeDescriptor};
 use numbers::var_int::VarInt;
 use numbers::var_uint::VarUInt;
 use questions::hexadecimal::Hexadecimal;
+use questions::words::Words;
 use std::alloc::{AllocError, Global};
 use std::iter;
 
 // `varuint BYTES AT END`: the value, and where the number ends.
-pub fn var_uint(alloc: Global, part: Part) -> Answer {
+pub fn var_uint(part: Part, words: &mut Words) -> Answer {
     let VarUInt { value, next } = binary_buffer::read_var_uint(part.s, part.at, part.end)?;
-    Ok(format!(in alloc; "{value} {next}")?)
+    Ok(format!(in words.alloc; "{value} {next}")?)
 }
 
 // `varint BYTES AT END`: sign, magnitude, and where the number ends.
-pub fn var_int(alloc: Global, part: Part) -> Answer {
+pub fn var_int(part: Part, words: &mut Words) -> Answer {
     let VarInt {
         negative,
         magnitude,
         next,
     } = binary_buffer::read_var_int(part.s, part.at, part.end)?;
-    Ok(format!(in alloc; "{} {magnitude} {next}", sign(negative))?)
+    Ok(format!(in words.alloc; "{} {magnitude} {next}", sign(negative))?)
 }
 
 // `intparts BYTES AT END LENGTH`: sign, the low seven bits of the first byte, and the span of the bytes after it.
-pub fn int_parts(alloc: Global, part: Part, length: usize) -> Answer {
+pub fn int_parts(part: Part, words: &mut Words) -> Answer {
+    let length = words.number();
     let Int {
         negative,
         first,
         rest,
         end,
     } = binary_buffer::read_int(part.s, part.at, part.end, length)?;
-    Ok(format!(in alloc; "{} {first} {rest} {end}", sign(negative))?)
+    Ok(format!(in words.alloc; "{} {first} {rest} {end}", sign(negative))?)
 }
 
 // A magnitude's bytes without leading zeros.
@@ -45,11 +47,12 @@ pub fn magnitude(alloc: Global, first: u8, rest: &[u8]) -> Result<Vec<u8>, Alloc
 }
 
 // `int BYTES AT END LENGTH`: sign, magnitude, and where the number ends.
-pub fn int(alloc: Global, part: Part, length: usize) -> Answer {
+pub fn int(part: Part, words: &mut Words) -> Answer {
+    let length = words.number();
     let int = binary_buffer::read_int(part.s, part.at, part.end, length)?;
     let rest = binary_buffer::read_int_rest(part.s, part.at, part.end, length);
-    let bytes = magnitude(alloc, int.first, rest)?;
-    Ok(format!(in alloc;
+    let bytes = magnitude(words.alloc, int.first, rest)?;
+    Ok(format!(in words.alloc;
         "{} {} {}",
         sign(int.negative),
         Hexadecimal(&bytes),
@@ -57,6 +60,7 @@ pub fn int(alloc: Global, part: Part, length: usize) -> Answer {
     )?)
 }
 
+// The words are the questions' own: `Debug` writes others.
 fn kind_name(kind: Kind) -> &'static str {
     match kind {
         Kind::Value => "value",
@@ -69,14 +73,14 @@ fn kind_name(kind: Kind) -> &'static str {
 }
 
 // `descriptor BYTE`: type code, length code and kind.
-pub fn descriptor(alloc: Global, s: &[u8]) -> Answer {
-    let Some(byte) = s.first() else {
-        return Ok(String::from_str(alloc, "nothing")?);
+pub fn descriptor(part: Part, words: &mut Words) -> Answer {
+    let Some(byte) = part.s.first() else {
+        return Ok(String::from_str(words.alloc, "nothing")?);
     };
     let TypeDescriptor {
         type_code,
         length_code,
         kind,
     } = TypeDescriptor::from_byte(*byte);
-    Ok(format!(in alloc; "{type_code} {length_code} {}", kind_name(kind))?)
+    Ok(format!(in words.alloc; "{type_code} {length_code} {}", kind_name(kind))?)
 }

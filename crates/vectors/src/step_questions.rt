@@ -1,10 +1,9 @@
 // The answers to questions on steps: through a stream, a list's or sexp's body, a struct's body.
-use crate::answering::{Answer, Part, Refused, join, limit};
+use crate::answering::{Answer, Part, Refused, join};
 use crate::frame_questions::Places;
 use framing::encoded_value::EncodedValue;
 use numbers::refusal::Refusal;
-use questions::words::Words;
-use std::alloc::Global;
+use questions::words::{ANNOTATION_LIMIT, Words};
 use std::fmt;
 use stepping::cursor::{Cursor, Item, Step};
 
@@ -47,14 +46,14 @@ impl fmt::Display for Said {
 
 // `stream BYTES AT END COUNT LIMIT`, `sequence ..` and `struct ..`: what so many steps say, each with the cursor that the one
 // before handed back.
-pub fn steps<F>(alloc: Global, part: Part, words: &mut Words, next: F) -> Answer
+pub fn steps<F>(part: Part, words: &mut Words, next: F) -> Answer
 where
     F: Fn(Cursor, &[u8], usize) -> Step + Drop,
     requires { F.IsAlwaysCallable next }
 {
     let count: usize = words.number();
-    let limit = limit(words);
-    let mut line = String::new(alloc);
+    let limit = words.number_or(ANNOTATION_LIMIT);
+    let mut line = String::new(words.alloc);
     let mut cursor = Cursor {
         at: part.at,
         end: part.end,
@@ -67,14 +66,15 @@ where
     Ok(line)
 }
 
-// `streamleft BYTES AT END COUNT LIMIT`, `sequenceleft ..` and `structleft ..`: the cursor that so many steps leave.
-pub fn left<F>(alloc: Global, part: Part, words: &mut Words, next: F) -> Answer
+// `streamleft BYTES AT END COUNT LIMIT`, `sequenceleft ..` and `structleft ..`: the cursor that so many steps leave. The loop is that of
+// `steps`, which does something with each step: in one function a closure would be made here that does nothing.
+pub fn left<F>(part: Part, words: &mut Words, next: F) -> Answer
 where
     F: Fn(Cursor, &[u8], usize) -> Step + Drop,
     requires { F.IsAlwaysCallable next }
 {
     let count: usize = words.number();
-    let limit = limit(words);
+    let limit = words.number_or(ANNOTATION_LIMIT);
     let mut cursor = Cursor {
         at: part.at,
         end: part.end,
@@ -82,5 +82,5 @@ where
     for _ in 0..count {
         cursor = next(cursor, part.s, limit).next;
     }
-    Ok(format!(in alloc; "{} {}", cursor.at, cursor.end)?)
+    Ok(format!(in words.alloc; "{} {}", cursor.at, cursor.end)?)
 }

@@ -1,6 +1,6 @@
 // The answers to questions on timestamps' bodies.
 use crate::answering::{Answer, Part, sign};
-use std::alloc::Global;
+use questions::words::Words;
 use std::fmt;
 use timestamps::timestamp::{Stamp, read_timestamp};
 
@@ -44,18 +44,16 @@ impl fmt::Display for Attoseconds {
         if PLACES < exponent {
             return write!(f, "more than {PLACES} places");
         }
-        write!(f, "{coefficient}")?;
-        for _ in exponent..PLACES {
-            write!(f, "0")?;
-        }
-        Ok(())
+        let width = PLACES - exponent;
+        write!(f, "{coefficient}{:0<width$}", "")
     }
 }
 
 // `timestamp BYTES START END DESCRIPTOR`: how far it goes, the offset and the fields, sign and magnitude of the fraction's exponent, and its coefficient.
-pub fn timestamp(alloc: Global, part: Part, descriptor: usize) -> Answer {
+pub fn timestamp(part: Part, words: &mut Words) -> Answer {
+    let descriptor = words.number();
     let t = read_timestamp(part.s, part.at, part.end, descriptor)?;
-    Ok(format!(in alloc;
+    Ok(format!(in words.alloc;
         "{} {} {} {} {}",
         t.precision,
         Fields(t),
@@ -66,7 +64,7 @@ pub fn timestamp(alloc: Global, part: Part, descriptor: usize) -> Answer {
 }
 
 // `instant BYTES START END`: how far it goes, a fraction as a second, the offset and the fields, and the fraction by its value.
-pub fn instant(alloc: Global, part: Part) -> Answer {
+pub fn instant(part: Part, words: &mut Words) -> Answer {
     let t = read_timestamp(part.s, part.at, part.end, 0)?;
-    Ok(format!(in alloc; "{} {} {}", t.precision.min(5), Fields(t), Attoseconds(t))?)
+    Ok(format!(in words.alloc; "{} {} {}", t.precision.min(5), Fields(t), Attoseconds(t))?)
 }

@@ -7,7 +7,7 @@ use mathlib.Core.Path.{◌≡◌, refl, ◌∙◌, sym, ap, subst}
 use mathlib.Core.Bool.{Bool, true, false}
 use mathlib.Core.List.{List, [], ◌∷◌}
 use lib.ListN.{length, get_or, set, take, length-set}
-use lib.Seq.{get_or-set_same, get_or-set_other}
+use lib.Seq.{get_or-set_same, get_or-set_other, take-nil}
 use lib.Dec.{eqb}
 use Rattle.numbers.specs.Outcome.{Outcome, gives, refuses, pick}
 use Rattle.numbers.proofs.Outcomes.{by_case}
@@ -17,7 +17,7 @@ use Rattle.stepping.specs.declared.cursor.Rules.TheVariants.{Stream}
 use Rattle.stepping.proofs.Places.{ValueIn, ItemIn, a_marker, a_value, a_field}
 use Rattle.stepping.proofs.Moves.{Moves, ends, hands, stops, moves}
 use Rattle.walking.specs.Walk.{limits_out, parts as most_parts, Visit, visit, behind, following, whole_walk}
-use Rattle.walking.specs.Calls.{no_part, start_of, end_at, rules_at, or_above, seek, moved_to, state_after_value, state_after_visit, visit_of, calls, state_after}
+use Rattle.walking.specs.Calls.{no_part, start_of, end_at, rules_at, or_above, seek, moved_to, state_after_value, state_after_visit, visit_of, calls, state_after, items_in}
 use Rattle.stepping.specs.Leaving.{is_last}
 use Rattle.values.specs.Scalars.{is_container, body_rules, type_of}
 use Rattle.walking.specs.Private.State.{rules_by}
@@ -50,10 +50,6 @@ nested_same s ps ps' (suc d) h n =
     let e = ap (λ (p : Part). p.end) (h (suc d) (omega arith)) in
     let f = ap (λ (p : Part). p.end) (h d (omega arith)) in
     (omega (arith, n.0, e, f), nested_same s ps ps' d (λ i l. h i (omega arith)) n.1)
-
-take_nil : (n : ℕ) → ◌≡◌ {A = List Visit} [] (take n [])
-take_nil zero = refl
-take_nil (suc n) = refl
 
 -- a state that a walk from the start reaches
 record Fit (deepest : ℕ) (s : List ℕ) (w : Walk) : Type 0 where
@@ -217,11 +213,8 @@ module _ (limit deepest : ℕ) (s : List ℕ) (ranged : limits_out limit deepest
       ap (λ (xs : List Visit). v ∷ xs) (ending (is_last v.answer) (left (state_after_visit deepest w v)) (called n (state_after_visit deepest w v) g.fit)) ∙ sym (ap (take (suc n)) g.list)
     where
       ending : (t : Bool) {xs : List Visit} (ys : List Visit) → xs ≡ take n ys → pick t [] xs ≡ take n (pick t [] ys)
-      ending true ys h = take_nil n
+      ending true ys h = sym (take-nil n)
       ending false ys h = h
-
-  start_end : end_at (start_of s) 0 ≡ length s
-  start_end = refl
 
   start_fit : Fit deepest s (start_of s)
   start_fit = record { depth = omega arith; parts = refl; at = omega arith; nested = omega arith }
@@ -238,7 +231,7 @@ module _ (limit deepest : ℕ) (s : List ℕ) (ranged : limits_out limit deepest
 refused_exact : (limit deepest : ℕ) (s : List ℕ) → limits_out limit deepest ≡ true → (n : ℕ) → calls limit deepest n s (start_of s) ≡ take n (whole_walk limit deepest s)
 unfolding calls visit_of whole_walk
 refused_exact limit deepest s g zero = refl
-refused_exact limit deepest s g (suc n) = rw g (ap (λ (xs : List Visit). visit 0 (refuses 68 0) ∷ xs) (take_nil n))
+refused_exact limit deepest s g (suc n) = rw g (ap (λ (xs : List Visit). visit 0 (refuses 68 0) ∷ xs) (sym (take-nil n)))
 
 refused_other : (limit deepest : ℕ) (s : List ℕ) (w : Walk) → limits_out limit deepest ≡ true → (p : ℕ) → (visit_of limit deepest s w).answer ≡ refuses 50 p → ⊥
 refused_other limit deepest s w g p e =
@@ -254,3 +247,14 @@ pub never_outside : NeverOutside
 never_outside limit deepest s n p =
     by_case (limits_out limit deepest) (λ g. refused_other limit deepest s (state_after limit deepest n s (start_of s)) g p) (λ g.
     (next limit deepest s g (state_after limit deepest n s (start_of s)) (fit_after limit deepest s g n (start_of s) (start_fit limit deepest s g))).other p)
+
+-- the items counted from the start; none where a limit is none
+pub counted : (limit deepest : ℕ) (s : List ℕ) (n : ℕ) → items_in (calls limit deepest n s (start_of s)) ≡ items_in (take n (whole_walk limit deepest s))
+counted limit deepest s n = ap items_in (exact limit deepest s n)
+
+pub uncounted : (limit deepest : ℕ) (s : List ℕ) → limits_out limit deepest ≡ true → (n : ℕ) → items_in (take n (whole_walk limit deepest s)) ≡ 0
+unfolding whole_walk
+uncounted limit deepest s g zero = refl
+uncounted limit deepest s g (suc n) = rw g
+
+pub ruleset from_start = (counted, uncounted)

@@ -1,18 +1,17 @@
 -- What a step at a state's place answers, by the name that is read there, where something of the part is left.
 -- Assumes nothing.
-use Prim.Native.Nat.{ℕ, ◌+◌, ◌≤◌, ◌<◌}
+use Prim.Native.Nat.{ℕ, ◌<◌}
 use native.Mathlib.Omega.{arith}
 use mathlib.Core.Path.{◌≡◌, ◌∙◌, sym, ap}
 use mathlib.Core.Bool.{false}
 use mathlib.Core.List.{List}
-use lib.ListN.{length, get_or}
+use lib.ListN.{length}
 use Rattle.numbers.specs.Outcome.{Outcome, gives, refuses, outside_of}
 use Rattle.numbers.specs.Answers.{Unsigned}
 use Rattle.numbers.proofs.Outcomes.{inside_order, inside_end}
 use Rattle.framing.specs.Spans.{Spans}
 use Rattle.framing.specs.Answers.{read_value}
 use Rattle.framing.specs.ShortValue.{short_value, short_value_of}
-use Rattle.framing.proofs.ShortValues.{short_bounds}
 use Rattle.stepping.specs.Items.{Item}
 use Rattle.stepping.specs.Answers.{answer_at}
 use Rattle.stepping.specs.Names.{name_at, item_by, answer_from}

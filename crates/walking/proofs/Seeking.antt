@@ -5,11 +5,10 @@ use native.Mathlib.Omega.{arith}
 use mathlib.Core.Path.{◌≡◌, refl, ◌∙◌, sym, ap, fun_ext}
 use mathlib.Core.List.{List}
 use lib.ListN.{length}
-use lib.Dec.{ltb, eqb}
+use lib.Dec.{ltb}
 use mathlib.Core.Bool.{Bool, true, false, true≢false}
-use borrow.Author.Tests.{ltb-false, lt-ltb, le-ltb, eqb-true, eqb-false}
-use Rattle.numbers.specs.Outcome.{Outcome, gives, refuses, pick, outside_of}
-use Rattle.numbers.specs.declared.refusal.Refusal.{Refusal}
+use borrow.Author.Tests.{ltb-false, lt-ltb, le-ltb}
+use Rattle.numbers.specs.Outcome.{Outcome, gives, refuses, outside_of}
 use Rattle.numbers.proofs.Outcomes.{by_test, inside}
 use Rattle.framing.specs.Limits.{out_of_range}
 use Rattle.stepping.specs.Items.{Item, finish, marker, value, field}
@@ -58,6 +57,8 @@ not_end (End p) l q e = absurd (l p refl)
 not_end (Marker a x y f) l q e = absurd (let z : ◌≡◌ {A = ℕ} 0 1 = cc in omega arith)
 not_end (Value v) l q e = absurd (let z : ◌≡◌ {A = ℕ} 0 1 = cc in omega arith)
 not_end (Field id a v) l q e = absurd (let z : ◌≡◌ {A = ℕ} 0 1 = cc in omega arith)
+
+pub ruleset sought = (in_stream, above, here, not_end)
 
 -- an item that is no end is not the last answer
 pub handed : (x : ItemEnum) → ((p : ℕ) → x ≡ End p → ⊥) → is_last (gives (places_of x)) ≡ false

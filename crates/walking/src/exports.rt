@@ -1,4 +1,4 @@
-// The count of a walk's items as other languages call it, by the crate `walking_c`.
+// The count of a walk's items as other languages call it, by the crate `walking_c`. The parameters, and the number returned, are C's.
 //
 // `limit` is the most bytes that a value's annotations may have, `deepest` the depth at which the walk enters no container.
 ghost use Rattle.std.specs.Prelude.{◌≡◌, take};

@@ -14,7 +14,7 @@ use framing::binary_buffer::{bare_value, short_value};
 use framing::encoded_value::EncodedValue;
 use framing::limits::out_of_range;
 use numbers::binary_buffer::outside;
-use numbers::refusal::{Reason, Refusal};
+use numbers::refusal::{LIMIT_OUT_OF_RANGE, Reason, Refusal};
 use stepping::cursor::{Item, Rules, item_at, item_from, read_name};
 use values::value::is_container;
 
@@ -26,14 +26,16 @@ const MOST_DEPTH: usize = 64;
 // The parts that a walk can be in: the stream, and a body for each depth.
 pub const PARTS: usize = MOST_DEPTH + 1;
 
-// A part that a walk is in: where it ends, and whether it is the body of a struct.
+// A part that a walk is in: where it ends, and whether it is the body of a struct. A flag, and no rules: at depth 0 a walk goes by the stream's, whatever
+// stands here.
 #[derive(Clone, Copy)]
 pub struct Part {
     pub end: usize,
     pub fields: bool,
 }
 
-// Where a walk is: the parts that it is in, by depth; its depth and its position. `deep`: the container at the position was handed out and is too deep to enter.
+// Where a walk is: the parts that it is in, by depth; its depth and its position. `deep`: the container at the position was handed out and is too deep to
+// enter, a flag by itself, beside no value that it speaks of. The parts are an array of a fixed length, here and where a walk starts: there is no heap.
 #[derive(Clone, Copy)]
 pub struct Walk {
     pub parts: [Part; PARTS],
@@ -51,7 +53,7 @@ pub struct Walked {
 }
 
 // What of a walk is no part. The count holds it by itself, in registers: in a walk that is written to, it would be read from memory for each item, which takes
-// a tenth more time.
+// a tenth more time. A walk has these fields and no place: a caller's state has them so, as the definition of an answer has.
 #[derive(Clone, Copy)]
 struct Place {
     depth: usize,
@@ -68,13 +70,14 @@ struct Seen {
 
 // The two limits of a call, each in its range.
 #[derive(Clone, Copy)]
-struct Limits {
-    bytes: usize,
-    depth: usize,
-    ghost in_range: { limits_out bytes depth ≡ false },
+pub struct Limits {
+    pub bytes: usize,
+    pub depth: usize,
+    pub ghost in_range: { limits_out bytes depth ≡ false },
 }
 
 // Whether one of a walk's two limits is none.
+#[tactic(auto, using(std::proofs::lemmas::Bool::Decides::nat_tests), unfolding(crate::specs::Walk::limits_out))]
 pub fn limits_out(limit: usize, deepest: usize) -> bool
     ensures { result ≡ limits_out limit deepest }
 {
@@ -86,7 +89,7 @@ pub fn limits_out(limit: usize, deepest: usize) -> bool
 
 impl Limits {
     // None where one of the two is none.
-    fn new(limit: usize, deepest: usize) -> Option<Limits>
+    pub fn new(limit: usize, deepest: usize) -> Option<Limits>
         ensures { MatchOption result (limits_out limit deepest ≡ true) (λ l. (l.bytes ≡ limit) × (l.depth ≡ deepest)) }
     {
         if limits_out(limit, deepest) {
@@ -125,6 +128,7 @@ fn rules_at(depth: usize, fields: bool) -> Rules
     }
 }
 
+// Short for what many exits give; what numbers calls `OUTSIDE` too, since a depth stands beside it here.
 fn refused(depth: usize, reason: Reason, position: usize) -> Seen
     ensures { seen_read result ≡ visit depth (refuses (number_of reason) position) }
 {
@@ -135,6 +139,7 @@ fn refused(depth: usize, reason: Reason, position: usize) -> Seen
 }
 
 // How many items at most `most` calls of a map's walk hand out from its start: 0 where a limit is none.
+#[tactic(auto, using(crate::proofs::Exact::from_start))]
 pub fn count_items(s: &[u8], most: u64, limit: usize, deepest: usize) -> u64
     ensures { result ≡ items_in (take most (whole_walk limit deepest s.now)) }
 {
@@ -164,16 +169,14 @@ impl Walk {
     }
 
     // The next answer of the walk.
+    #[tactic(auto, using(crate::proofs::Seeking::visit_unranged, crate::proofs::Seeking::visit_depth))]
     pub fn next(self, s: &[u8], limit: usize, deepest: usize) -> Walked
         ensures { walked_read result ≡ next_of limit deepest s.now self }
     {
         let Some(limits) = Limits::new(limit, deepest) else {
             return Walked {
                 depth: 0,
-                item: Err(Refusal {
-                    reason: Reason::LimitOutOfRange,
-                    position: 0,
-                }),
+                item: Err(LIMIT_OUT_OF_RANGE),
                 next: self,
             };
         };
@@ -187,7 +190,7 @@ impl Walk {
     }
 
     // The answer at the walk's place.
-    #[tactic(auto, using(crate::proofs::Depths::depth_room))]
+    #[tactic(auto, using(std::proofs::lemmas::Bool::Decides::nat_tests, crate::proofs::Depths::depth_room), unfolding(crate::specs::Calls::visit_of, crate::specs::Calls::barred))]
     fn look(&self, s: &[u8], limits: Limits) -> Seen
         ensures { seen_read result ≡ visit_of limits.bytes limits.depth s.now self.now }
     {
@@ -204,26 +207,23 @@ impl Walk {
     }
 
     // The next answer from the walk's place on, in the parts above where its part ends.
+    #[tactic(auto, using(crate::proofs::Seeking::sought))]
     fn find(&self, s: &[u8], limit: usize) -> Seen
         requires { self.now.depth ≤ most_depth }
         ensures { seen_read result ≡ seek limit s.now self.now self.now.depth self.now.at }
     {
-        let mut depth = self.depth;
         let mut at = self.at;
-        while depth > 0 {
+        // By depths: what is answered tells the depth.
+        for depth in (1..=self.depth).rev() {
             let part = self.parts[depth];
             let step = item_at(rules_at(depth, part.fields), s, at, part.end, limit);
-            let Ok(item) = step else {
+            let Ok(Item::End { position }) = step else {
                 return Seen { depth, item: step };
             };
-            let Item::End { position } = item else {
-                return Seen { depth, item: step };
-            };
-            depth -= 1;
             at = position;
         }
         let item = item_at(Rules::Stream, s, at, self.parts[0].end, limit);
-        Seen { depth, item }
+        Seen { depth: 0, item }
     }
 
     // The place behind a value that was handed out at this depth: in its body, if it is a container.
@@ -243,6 +243,7 @@ impl Walk {
             };
         }
         let inner = depth + 1;
+        // By the byte, as `values::open` has it: the count comes here for each container, and that would test again that it is one.
         self.parts[inner] = Part {
             end: value.end,
             fields: value.byte / 16 == 13,
@@ -281,8 +282,9 @@ impl Walk {
         self.deep = place.deep;
     }
 
-    // How many items at most `most` calls hand out from the walk's place on.
-    #[tactic(auto, using(crate::proofs::Depths::depth_room))]
+    // How many items at most `most` calls hand out from the walk's place on. In one piece: a turn ends the count, goes on without an item, or hands one out. A
+    // function for a turn would answer one of the three, and the loop would test it again.
+    #[tactic(auto, using(crate::proofs::Depths::depth_room, crate::proofs::Turns::turns))]
     fn count(&mut self, s: &[u8], most: u64, limits: Limits) -> u64
         ensures { result ≡ items_in (calls limits.bytes limits.depth most s.now self.old) }
     {
@@ -321,8 +323,7 @@ impl Walk {
                     place = self.pass_value(depth, value, limits);
                 }
                 None => {
-                    let Ok(item) = item_from(rules, s, at, name.id, name.next, end, limits.bytes)
-                    else {
+                    let Ok(item) = item_from(rules, s, at, name, end, limits.bytes) else {
                         return count;
                     };
                     match item {

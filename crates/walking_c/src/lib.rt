@@ -1,4 +1,4 @@
-// The count of a walk's items, `ion_map_walked`, as other languages call it: the function of the crate `walking`, under its clauses.
+// The count of a walk's items, `ion_map_walked`, as other languages call it: the function of the crate `walking`, under its clauses. The parameters are C's.
 #![tactic(auto)]
 
 ghost use Rattle.std.specs.Prelude.{◌≡◌, take};

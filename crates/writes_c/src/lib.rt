@@ -1,4 +1,4 @@
-// The functions that write values, as other languages call them: those of the crate `writes`, each under its clauses.
+// The functions that write values, as other languages call them: those of the crate `writes`, each under its clauses. The parameters are C's.
 #![tactic(auto)]
 
 ghost use Rattle.std.specs.Prelude.{ℕ, length, eqb};

@@ -6,7 +6,7 @@ use borrow.Author.Tests.{ltb-true, ltb-false, eq-eqb, not-false}
 use mathlib.Core.Path.{◌≡◌, refl, ◌∙◌, sym, subst}
 use mathlib.Core.Bool.{Bool, true, false, not, true≢false}
 use mathlib.Core.Logic.{◌⊎◌, inl, inr}
-use mathlib.Core.List.{List, [], ◌∷◌, ◌++◌}
+use mathlib.Core.List.{List, ◌++◌}
 use lib.ListN.{length}
 use lib.Dec.{ltb, eqb}
 use Rattle.numbers.specs.Outcome.{gives}
@@ -23,17 +23,13 @@ use Rattle.encoding.proofs.VarUInts.{uint_written}
 use Rattle.encoding.proofs.Heads.{head_length, typed-back}
 use Rattle.encoding.proofs.Standing.{stands_rest}
 use Rattle.writing.specs.Things.{Thing, int_type, significant, float_body, symbol_body, written}
-use Rattle.writing.specs.Answers.{has_body, is_container, judged_scalar}
+use Rattle.writing.specs.Answers.{has_body, judged_scalar}
 use Rattle.writing.specs.Theorems.{Sound, Bodied, an_int, a_float, a_symbol, a_scalar, a_container, ValuesBack}
 use Rattle.writing.proofs.Lengths.{not_past}
+use Rattle.writing.proofs.Stages.{significant_short, Contains, contains}
 use Rattle.writing.proofs.OneByte.{one_byte_struct}
 
 -- ---- what a representation can be
-
-pub significant_few : (m : List ℕ) → length (significant m) ≤ length m
-unfolding significant
-significant_few [] = omega arith
-significant_few (b ∷ bs) = by_test (λ (l : List ℕ). length l ≤ length (b ∷ bs)) (eqb b 0) (λ _. omega (arith, significant_few bs)) (λ _. omega arith)
 
 pub float_size : (bits : ℕ) → (length (float_body bits) ≡ 0) ⊎ (length (float_body bits) ≡ 4) ⊎ (length (float_body bits) ≡ 8)
 unfolding float_body
@@ -46,7 +42,7 @@ float_few bits = by_test (λ (l : List ℕ). length l ≤ 8) (eqb bits 0) (λ _.
 
 pub symbol_few : (id : ℕ) → length (symbol_body id) ≤ 8
 unfolding symbol_body
-symbol_few id = omega (arith, significant_few (big_endian 8 id), (uint_written 8 id).size)
+symbol_few id = omega (arith, significant_short (big_endian 8 id), (uint_written 8 id).size)
 
 -- a type that is given as a body
 record HasBody (type : ℕ) : Type 0 where
@@ -59,16 +55,6 @@ has_body_lem type =
     by_test (λ (b : Bool). not b ≡ false → HasBody type) (ltb type 5) (λ _ h. absurd (true≢false h)) (λ a.
     by_test (λ (b : Bool). not b ≡ false → HasBody type) (eqb type 7) (λ _ h. absurd (true≢false h)) (λ _ h.
     record { low = ltb-false type 5 a; high = omega (arith, ltb-true type 11 (not-false (ltb type 11) h)) }))
-
-record Contains (type : ℕ) : Type 0 where
-  low : 11 ≤ type
-  high : type ≤ 13
-
-contains : (type : ℕ) → not (is_container type) ≡ false → Contains type
-unfolding is_container
-contains type =
-    by_test (λ (b : Bool). not b ≡ false → Contains type) (ltb type 11) (λ _ h. absurd (true≢false h)) (λ a h.
-    record { low = ltb-false type 11 a; high = omega (arith, ltb-true type 14 (not-false (ltb type 14) h)) })
 
 -- a timestamp that the reader does not refuse has two bytes
 stamp_long : (type : ℕ) (body : List ℕ) → judged_scalar type body ≡ gives done → type ≡ 6 → 2 ≤ length body

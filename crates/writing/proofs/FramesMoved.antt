@@ -48,10 +48,10 @@ abbrev pub moved_frame : ℕ → Frame → Frame
 moved_frame n (padding p) = padding (moved_padding n p)
 moved_frame n (valued v) = valued (moved_spans n v)
 
-further : (n a b : ℕ) → n + a + b ≡ n + (a + b)
+pub further : (n a b : ℕ) → n + a + b ≡ n + (a + b)
 further n a b = omega arith
 
-between : (n a b : ℕ) → n + a - (n + b) ≡ a - b
+pub between : (n a b : ℕ) → n + a - (n + b) ≡ a - b
 between n a b = omega arith
 
 -- a value that moves as a whole: the seven places

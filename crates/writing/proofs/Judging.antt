@@ -3,9 +3,9 @@
 -- Assumes nothing.
 use Prim.Native.Nat.{ℕ, suc, ◌+◌, ◌-◌, ◌≤◌, ◌<◌}
 use native.Mathlib.Omega.{arith}
-use borrow.Author.Tests.{lt-ltb, le-ltb, ltb-true, ltb-false, ne_eqb, not-false}
+use borrow.Author.Tests.{lt-ltb, le-ltb, ltb-true, ne_eqb}
 use mathlib.Core.Path.{◌≡◌, refl, ◌∙◌, sym, ap, subst}
-use mathlib.Core.Bool.{Bool, true, false, not, true≢false}
+use mathlib.Core.Bool.{true, false}
 use mathlib.Core.List.{List, ◌++◌}
 use lib.ListN.{length, get_or}
 use lib.Dec.{ltb, eqb}
@@ -23,7 +23,7 @@ use Rattle.stepping.specs.declared.cursor.Rules.{Rules}
 use Rattle.stepping.specs.declared.cursor.Rules.TheVariants.{Stream}
 use Rattle.values.specs.Scalars.{is_container, body_rules, scalar_of, typed_of}
 use Rattle.walking.specs.Walk.{limits_out}
-use Rattle.walking.proofs.Depths.{in_limit}
+use Rattle.walking.proofs.Depths.{in_limit, depth_some}
 use Rattle.checking.specs.Counts.{none, pads, place_of, counting}
 use Rattle.checking.specs.Reading.{done, as_done, read_content, read_item}
 use Rattle.checking.specs.Check.{Parts, value_check, on_found, part_check, whole_check}
@@ -36,9 +36,9 @@ use Rattle.encoding.specs.Meaning.{StandsAt, Writable}
 use Rattle.encoding.proofs.Heads.{head_type, head-code, head_length, typed_length, typed-back}
 use Rattle.encoding.proofs.Standing.{stands_at, stands_by, stands_rest}
 use Rattle.writing.specs.Answers.{rules_of, judged_container}
-use Rattle.writing.specs.Answers as ours
 use Rattle.writing.specs.Judged.{counted_from, JudgedContainers, AcceptedContainers}
 use Rattle.writing.proofs.Lengths.{not_past}
+use Rattle.writing.proofs.Stages.{contains}
 use Rattle.writing.proofs.ChecksMoved.{Counted, both_give, both_refuse, part_counted}
 use Rattle.writing.proofs.OneByte.{one_byte_struct}
 
@@ -98,19 +98,6 @@ pub counted_is : (n : ℕ) {A : Type 0} {o : Outcome A} {o' : Outcome (List ℕ)
 counted_is n both_give = refl
 counted_is n (both_refuse {number = k} e) = ap (refuses k) (sym e)
 
--- a container's type and depth
-type_low : (type : ℕ) → not (ours.is_container type) ≡ false → 11 ≤ type
-unfolding ours.is_container
-type_low type = by_test (λ (b : Bool). not b ≡ false → 11 ≤ type) (ltb type 11) (λ _ h. absurd (true≢false h)) (λ e _. ltb-false type 11 e)
-
-type_high : (type : ℕ) → not (ours.is_container type) ≡ false → type ≤ 13
-unfolding ours.is_container
-type_high type = by_test (λ (b : Bool). not b ≡ false → type ≤ 13) (ltb type 11) (λ _ h. absurd (true≢false h)) (λ _ h. omega (arith, ltb-true type 14 (not-false (ltb type 14) h)))
-
-pub deep : (limit deepest : ℕ) → limits_out limit deepest ≡ false → 1 ≤ deepest
-unfolding limits_out
-deep limit deepest = by_test (λ (b : Bool). b ≡ false → 1 ≤ deepest) (out_of_range limit) (λ _ h. absurd (true≢false h)) (λ _. by_test (λ (b : Bool). b ≡ false → 1 ≤ deepest) (ltb deepest 1) (λ _ h. absurd (true≢false h)) (λ e _. ltb-false deepest 1 e))
-
 pub judged_as_a_map : JudgedContainers
 unfolding judged_container body_check typed_bytes full
 judged_as_a_map limit deepest type body l i t one =
@@ -118,8 +105,8 @@ judged_as_a_map limit deepest type body l i t one =
     let s : List ℕ = head_bytes type n ++ body in
     let h : ℕ = head_size n in
     let g : out_of_range limit ≡ false = in_limit limit deepest l in
-    let low : 11 ≤ type = type_low type i in
-    let high : type ≤ 13 = type_high type i in
+    let low : 11 ≤ type = (contains type i).low in
+    let high : type ≤ 13 = (contains type i).high in
     let size : length s ≡ h + n = typed_length type body in
     let b : StandsAt s 0 (length s) s = stands_whole s in
     let w : Writable type n = record { low = omega arith; high = high; float = λ e. absurd (omega arith); timestamp = λ e. absurd (omega arith); struct = one; small = not_past n t } in
@@ -138,7 +125,7 @@ judged_as_a_map limit deepest type body l i t one =
     counted_is h k
     ∙ sym (ap (counted_from h)
     (whole_value limit s g deepest (typed_spans type 0 n) l f (omega arith)
-    ∙ value_inside s (full limit s) deepest type n (counting pads 0 none) (omega arith) (deep limit deepest l)
+    ∙ value_inside s (full limit s) deepest type n (counting pads 0 none) (omega arith) (depth_some limit deepest l)
     ∙ ap (λ (x : ℕ). part_check limit x s (rules_of type) (deepest - 1) (0 + h + n) (0 + h) c) m
     ∙ ap (λ (x : ℕ). part_check limit n s (rules_of type) (deepest - 1) x (0 + h) c) (sym y)
     ∙ ap (λ (x : ℕ). part_check limit n s (rules_of type) (deepest - 1) (h + n) x c) (sym z)))

@@ -2,22 +2,20 @@
 -- Assumes nothing.
 use Prim.Native.Nat.{ℕ, ◌+◌, ◌^◌, ◌≤◌, ◌<◌}
 use native.Mathlib.Omega.{arith}
-use borrow.Author.Tests.{ltb-true, ltb-false, lt-ltb, le-ltb, eqb-true, eqb-false}
+use borrow.Author.Tests.{ltb-true, ltb-false, lt-ltb, le-ltb}
 use mathlib.Core.Path.{◌≡◌, ◌∙◌, sym, ap}
-use mathlib.Core.Bool.{Bool, true, false}
+use mathlib.Core.Bool.{true, false}
 use mathlib.Core.List.{List, ◌++◌}
 use lib.ListN.{length, drop}
 use lib.Seq.{sets, sets-eq}
-use lib.Dec.{ltb, eqb}
-use Rattle.numbers.specs.Outcome.{gives, refuses}
+use lib.Dec.{ltb}
 use Rattle.numbers.proofs.Outcomes.{by_case}
-use Rattle.checking.specs.Reading.{done}
 use Rattle.encoding.specs.Fields.{var_uint_size, var_uint_bytes}
 use Rattle.encoding.specs.Heads.{head_bytes, head_size, typed_bytes, wrapped_bytes, wrapper_bytes}
 use Rattle.encoding.proofs.VarUInts.{var-uint-sized, var_uint_past, bytes_size}
-use Rattle.encoding.proofs.Heads.{head_length, typed_length}
+use Rattle.encoding.proofs.Heads.{head_length, head_few, typed_length, wrapped_length, wrapper_length}
 use Rattle.encoding.proofs.Stores.{sets_more}
-use Rattle.writing.specs.Answers.{past_nine, fitted}
+use Rattle.writing.specs.Answers.{past_nine}
 
 pub not_past : (n : ℕ) → past_nine n ≡ false → n < 2 ^ 63
 unfolding past_nine
@@ -32,20 +30,6 @@ past n h = lt-ltb 9 (var_uint_size n) (var_uint_past n h)
 pub told : (n : ℕ) → n < 2 ^ 63 → past_nine n ≡ false
 unfolding past_nine
 told n h = le-ltb 9 (var_uint_size n) (var-uint-sized n h).few
-
--- whether a list is empty
-pub empty : (l : List ℕ) {b : Bool} → b ≡ eqb (length l) 0 → b ≡ true → length l ≡ 0
-empty l e h = eqb-true (length l) 0 (sym e ∙ h)
-
-pub nonempty : (l : List ℕ) {b : Bool} → b ≡ eqb (length l) 0 → b ≡ false → length l ≡ 0 → ⊥
-nonempty l e h = eqb-false (length l) 0 (sym e ∙ h)
-
--- 70 last
-pub too_short : (room size size' : ℕ) → size ≡ size' → room < size → refuses 70 size ≡ fitted room size' done
-too_short room size size' e h = rw (← e, lt-ltb room size h)
-
-pub fits : (room size size' : ℕ) → size ≡ size' → size ≤ room → gives size ≡ fitted room size' done
-fits room size size' e h = rw (← e, le-ltb room size h)
 
 -- what is stored at the start
 pub stored : (bytes old : List ℕ) (n : ℕ) → n ≡ length bytes → n ≤ length old → sets old 0 bytes ≡ bytes ++ drop n old
@@ -76,3 +60,7 @@ wrapper_stored annotations value old head field n f e h room =
     ∙ ap (λ (k : ℕ). sets (sets old 0 (head_bytes 14 k)) head (wrapped_bytes annotations value)) e
     ∙ typed_stored 14 (wrapped_bytes annotations value) old head m (omega arith)
     ∙ ap (λ (k : ℕ). typed_bytes 14 (wrapped_bytes annotations value) ++ drop (head + k) old) (sym e)
+
+pub ruleset typed_put = (not_past, head_few, typed_length, typed_stored)
+
+pub ruleset wrapper_put = (not_past, head_few, wrapped_length, wrapper_length, wrapper_stored)

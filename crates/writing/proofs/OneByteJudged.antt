@@ -26,7 +26,8 @@ use Rattle.checking.proofs.Ids.{ids_none}
 use Rattle.writing.specs.Answers.{judged_container}
 use Rattle.writing.specs.Judged.{counted_from, JudgedOneByteStructs}
 use Rattle.writing.proofs.ChecksMoved.{part_counted}
-use Rattle.writing.proofs.Judging.{found_value, whole_value, counted_is, deep}
+use Rattle.writing.proofs.Judging.{found_value, whole_value, counted_is}
+use Rattle.walking.proofs.Depths.{depth_some}
 
 -- the struct of the map DE 81 and one byte
 abbrev struct : Spans
@@ -52,4 +53,4 @@ one_byte_judged limit deepest (b ∷ []) l e =
     (part_counted limit (b ∷ []) s 2 0 1 g (omega arith) (omega arith) (λ i _ q. let z : i ≡ 0 = omega arith in rw z) 1 Fields (deepest - 1) 1 0 none (counting (place_of struct) 1 c) (omega arith) (omega arith) (omega arith))
     ∙ sym (ap (counted_from 2)
     (whole_value limit s g deepest struct l (found_value limit s g struct (omega arith) (λ q. absurd (omega arith)) (struct_framed limit b)) refl
-    ∙ struct_inside s (full limit s) deepest c (deep limit deepest l)))
+    ∙ struct_inside s (full limit s) deepest c (depth_some limit deepest l)))

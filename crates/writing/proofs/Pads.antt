@@ -4,21 +4,22 @@ use Prim.Native.Nat.{ℕ, suc, ◌+◌, ◌-◌, ◌^◌, ◌≤◌, ◌<◌}
 use native.Mathlib.Omega.{arith}
 use native.Mathlib.Nat.{pow-le-pow_right, lt_of_lt_of_le}
 use native.Mathlib.Numerals.{add-one}
-use borrow.Author.Tests.{ltb-true, ltb-false, lt-ltb, le-ltb, eqb-false, eq-eqb, ne_eqb}
-use mathlib.Core.Path.{◌≡◌, refl, ◌∙◌, sym, ap}
-use mathlib.Core.Bool.{Bool, true, false, true≢false}
+use borrow.Author.Tests.{ltb-true, ltb-false, lt-ltb, le-ltb, eqb-false}
+use mathlib.Core.Path.{◌≡◌, ◌∙◌, sym, ap}
+use mathlib.Core.Bool.{Bool, false, true≢false}
 use mathlib.Core.List.{List, [], ◌∷◌, ◌++◌}
 use mathlib.Core.List.{append_assoc}
 use lib.ListN.{length, get_or, take, drop, replicate, length-append, length-replicate}
 use lib.Seq.{sets, sets-eq, length-sets}
 use borrow.Rule.Slice.PartMut.{put_mid}
 use Rattle.std.proofs.lemmas.Grind.{same_number_lists}
-use Rattle.std.proofs.lemmas.List.{get_or-replicate, drop-drop}
+use Rattle.std.proofs.lemmas.List.{get_or-replicate, drop-drop, places}
 use lib.Dec.{ltb, eqb}
 use Rattle.numbers.proofs.Outcomes.{by_test, by_case}
 use Rattle.encoding.specs.Fields.{var_uint_in, fewest, var_uint_size}
 use Rattle.encoding.proofs.VarUInts.{var_uint_written, fewest_low, size_least, size_enough}
 use Rattle.encoding.proofs.Stores.{sets_more}
+use Rattle.writing.proofs.Lengths.{stored}
 use Rattle.writing.specs.Things.{pad_field, pad_head, pad_bytes}
 use Rattle.writing.specs.Answers.{no_pad}
 
@@ -69,18 +70,6 @@ pad_some size = by_test (λ (b : Bool). b ≡ false → 0 < size) (eqb size 0) (
 pub pad_few : (size : ℕ) → no_pad size ≡ false → pad_field size ≤ 9
 unfolding no_pad
 pad_few size = by_test (λ (b : Bool). b ≡ false → pad_field size ≤ 9) (eqb size 0) (λ _ e. absurd (true≢false e)) (λ _ e. ltb-false 9 (pad_field size) e)
-
-pub pad_none : (size : ℕ) → size ≡ 0 → no_pad size ≡ true
-unfolding no_pad
-pad_none size h = rw (eq-eqb size 0 h)
-
-pub pad_past : (size : ℕ) → 9 < pad_field size → no_pad size ≡ true
-unfolding no_pad
-pad_past size h = by_test (λ (b : Bool). b ≡ true) (eqb size 0) (λ _. refl) (λ _. lt-ltb 9 (pad_field size) h)
-
-pub pad_told : (size : ℕ) → 0 < size → pad_field size ≤ 9 → no_pad size ≡ false
-unfolding no_pad
-pad_told size h l = rw (ne_eqb size 0 (omega arith), le-ltb 9 (pad_field size) l)
 
 -- what goes before a pad's body fits into it
 pub field_small : (size : ℕ) → no_pad size ≡ false → 1 + pad_field size ≤ size
@@ -151,3 +140,13 @@ pad_stored old filled size field t e room l h =
     ∙ sym (sets-eq filled head (1 + field) (omega arith))
     ∙ ap (sets head (1 + field)) z
     ∙ sym (sets_more old 0 (pad_head size) (replicate (size - 1 - pad_field size) 0) ∙ ap (λ (j : ℕ). sets head j (replicate (size - 1 - pad_field size) 0)) k ∙ ap (λ (j : ℕ). sets head (1 + field) (replicate j 0)) m)
+
+-- ---- what each function's goals take
+
+pub ruleset fields = (field_none, field_from, field_hit, field_on, field_end)
+
+pub ruleset heads = (pad_some, pad_few, field_some, head_short, head_long)
+
+pub ruleset puts = (pad_few, field_small, pad_stored, places)
+
+pub ruleset stores = (pad_length, stored)

@@ -1,17 +1,17 @@
--- What writing answers, one test at a time.
+-- What the functions that judge and write need of the layers below: a body by itself, a magnitude without leading zero bytes, a wrapper's value.
 -- Assumes nothing.
 use Prim.Native.Nat.{ℕ, zero, suc, ◌-◌, ◌/◌, ◌≤◌, ◌<◌}
 use native.Mathlib.Omega.{arith}
-use borrow.Author.Tests.{lt-ltb, le-ltb, eq-eqb, ne_eqb}
+use borrow.Author.Tests.{ltb-true, ltb-false, eq-eqb, ne_eqb, not-false}
 use mathlib.Core.Path.{◌≡◌, refl, ◌∙◌, sym, ap}
-use mathlib.Core.Bool.{true, false}
+use mathlib.Core.Bool.{Bool, true, false, not, true≢false}
 use mathlib.Core.List.{List, [], ◌∷◌}
 use lib.ListN.{length, get_or, take, drop, length-drop}
 use lib.Seq.{take_all}
-use lib.Dec.{eqb}
+use lib.Dec.{ltb, eqb}
 use Rattle.std.specs.Int.{w64, to_be_bytes}
-use Rattle.numbers.specs.Outcome.{Outcome, gives, refuses, refuse_if, and_then}
-use Rattle.numbers.proofs.Outcomes.{by_test}
+use Rattle.numbers.specs.Outcome.{Outcome, refuses, refuse_if}
+use Rattle.numbers.proofs.Outcomes.{by_test, inside}
 use Rattle.std.specs.Prelude.{Option, Some, None}
 use Rattle.numbers.specs.Refusals.{number_of}
 use Rattle.numbers.specs.declared.refusal.Reason.{Reason}
@@ -20,53 +20,42 @@ use Rattle.numbers.specs.Descriptor.{descriptor_of}
 use Rattle.numbers.specs.declared.type_descriptor.Kind.{Kind}
 use Rattle.numbers.specs.declared.type_descriptor.Kind.TheVariants.{Value, Null, Pad, Marker, Wrapper, Reserved}
 use Rattle.framing.specs.Limits.{out_of_range, limited}
-use Rattle.framing.specs.Spans.{Spans}
+use Rattle.framing.specs.ShortValue.{bare_spans}
+use Rattle.values.specs.Scalars.{scalar_of, scalar_in}
 use Rattle.framing.specs.Answers.{is_pad, is_wrapper, value_without_annotations, inner_value, value_at, read_value}
 use Rattle.framing.proofs.Completeness.{peeked_here}
 use Rattle.framing.proofs.Soundness.{here}
 use Rattle.bodies.specs.Magnitude.{significant_from}
 use Rattle.bodies.proofs.Leading.{Begins, significant_begins}
 use Rattle.stepping.specs.declared.cursor.Rules.{Rules}
-use Rattle.walking.specs.Walk.{limits_out}
-use Rattle.checking.specs.Reading.{done, read_ids}
+use Rattle.walking.proofs.Depths.{in_limit, depth_some}
 use Rattle.checking.specs.Body.{body_check, limited_body}
 use Rattle.encoding.specs.Fields.{big_endian}
-use Rattle.writing.specs.Things.{Thing, significant, written}
-use Rattle.writing.specs.Answers.{outside, too_long, judged, fitted, write_of, limited_write, lent_value, then_value, judged_parts, judged_wrapper}
+use Rattle.writing.specs.Things.{significant}
+use Rattle.writing.specs.Answers.{is_container, lent_value}
 use Rattle.writing.specs.Private.Inner.{inner_fault}
-
-module _ (limit deepest : ℕ) (thing : Thing) (room : ℕ) where
-  pub outside_is : outside thing ≡ true → refuses 50 0 ≡ write_of limit deepest thing room
-  unfolding write_of
-  outside_is h = rw h
-
-  module _ (in-range : outside thing ≡ false) where
-    pub long_is : too_long thing ≡ true → refuses 71 0 ≡ write_of limit deepest thing room
-    unfolding write_of
-    long_is h = rw (in-range, h)
-
-    module _ (short : too_long thing ≡ false) where
-      pub judged_is : {number position : ℕ} → judged limit deepest thing ≡ refuses number position → refuses number position ≡ write_of limit deepest thing room
-      unfolding write_of
-      judged_is h = rw (in-range, short, h)
-
-      pub fitted_is : judged limit deepest thing ≡ gives done → fitted room (length (written thing)) done ≡ write_of limit deepest thing room
-      unfolding write_of
-      fitted_is h = rw (in-range, short, h)
-
-  pub unlimited : limits_out limit deepest ≡ true → refuses 68 0 ≡ limited_write limit deepest thing room
-  unfolding limited_write
-  unlimited h = rw h
-
-  pub in_limits : limits_out limit deepest ≡ false → write_of limit deepest thing room ≡ limited_write limit deepest thing room
-  unfolding limited_write
-  in_limits h = rw h
 
 -- ---- a body by itself, in limits
 
 pub body_limited : (limit room : ℕ) (rules : Rules) (body : List ℕ) → out_of_range limit ≡ false → limited_body limit room rules body ≡ body_check limit room rules body
 unfolding limited_body
 body_limited limit room rules body h = rw h
+
+-- a container's type has one of the three codes
+pub record Contains (type : ℕ) : Type 0 where
+  pub low : 11 ≤ type
+  pub high : type ≤ 13
+
+pub contains : (type : ℕ) → not (is_container type) ≡ false → Contains type
+unfolding is_container
+contains type =
+    by_test (λ (b : Bool). not b ≡ false → Contains type) (ltb type 11) (λ _ h. absurd (true≢false h)) (λ a h.
+    record { low = ltb-false type 11 a; high = omega (arith, ltb-true type 14 (not-false (ltb type 14) h)) })
+
+pub container_below : (type : ℕ) → is_container type ≡ true → type < 14
+container_below type h = omega (arith, (contains type (ap not h)).high)
+
+pub ruleset stages = (body_limited, in_limit, depth_some, container_below)
 
 -- ---- a magnitude without leading zero bytes
 
@@ -90,6 +79,8 @@ module _ (m : List ℕ) (r : ℕ) (e : r ≡ significant_from m 0 (length m)) wh
   significant_part =
       take_all (length m - r) (drop r m) (omega (arith, length-drop r m))
       ∙ from_first m r significant_high (λ i l. begins.zeros i (omega arith) (omega arith)) (λ l. rw e (begins.here (omega arith)))
+
+pub ruleset magnitudes = (significant_high, significant_part)
 
 pub significant_short : (m : List ℕ) → length (significant m) ≤ length m
 unfolding significant
@@ -137,32 +128,10 @@ module _ (value : List ℕ) (some : 0 < length value) where
   lent-value limit g e =
       rw (g, lent_is, ← e, peeked_here value 0 (length value) some (omega arith), no_wrapper (here value 0).kind e)
 
--- ---- a wrapper's parts
+pub ruleset lent = (lent_fault, lent-value, in_limit)
 
-module _ (limit deepest : ℕ) (annotations value : List ℕ) where
-  module _ (v : Spans) where
-    pub differs_is : (v.end ≡ length value → ⊥) → refuses 29 0 ≡ judged_parts limit deepest annotations value v
-    unfolding judged_parts
-    differs_is h = rw (ne_eqb v.end (length value) h)
+-- ---- a body that stands by itself
 
-    pub parts_is : v.end ≡ length value → and_then (read_ids annotations 0 (length annotations)) (then_value limit deepest value) ≡ judged_parts limit deepest annotations value v
-    unfolding judged_parts
-    parts_is h = rw (eq-eqb v.end (length value) h)
-
-  pub none_is : length annotations ≡ 0 → refuses 23 0 ≡ judged_wrapper limit deepest annotations value
-  unfolding judged_wrapper
-  none_is h = rw (eq-eqb (length annotations) 0 h)
-
-  module _ (some : length annotations ≡ 0 → ⊥) where
-    pub empty_is : length value ≡ 0 → refuses 25 0 ≡ judged_wrapper limit deepest annotations value
-    unfolding judged_wrapper
-    empty_is h = rw (ne_eqb (length annotations) 0 some, eq-eqb (length value) 0 h)
-
-    module _ (more : length value ≡ 0 → ⊥) where
-      pub many_is : limit < length annotations → refuses 26 0 ≡ judged_wrapper limit deepest annotations value
-      unfolding judged_wrapper
-      many_is h = rw (ne_eqb (length annotations) 0 some, ne_eqb (length value) 0 more, lt-ltb limit (length annotations) h)
-
-      pub within_is : length annotations ≤ limit → and_then (lent_value value) (judged_parts limit deepest annotations value) ≡ judged_wrapper limit deepest annotations value
-      unfolding judged_wrapper
-      within_is h = rw (ne_eqb (length annotations) 0 some, ne_eqb (length value) 0 more, le-ltb limit (length annotations) h)
+pub placed : (body : List ℕ) (byte : ℕ) → scalar_in body (bare_spans byte 0 0 (length body)) ≡ scalar_of body (bare_spans byte 0 0 (length body))
+unfolding scalar_in
+placed body byte = rw (inside body 0 (length body) (omega arith) (omega arith))

@@ -20,7 +20,7 @@ use Rattle.stepping.specs.Runs.{cursor}
 use Rattle.stepping.specs.declared.cursor.Rules.{Rules}
 use Rattle.stepping.specs.declared.cursor.Rules.TheVariants.{Stream, Sequence, Fields}
 use Rattle.stepping.proofs.Places.{pad_ends}
-use Rattle.writing.proofs.FramesMoved.{moved_spans, moved_frame, frame_moved}
+use Rattle.writing.proofs.FramesMoved.{moved_spans, moved_frame, frame_moved, further, between}
 
 abbrev pub moved_item : ℕ → Item → Item
 moved_item n (finish p) = finish (n + p)
@@ -36,12 +36,6 @@ moved_tile n (hand i) = hand (moved_item n i)
 pub record StepMoved (n : ℕ) (f g : Found) : Type 0 where
   pub pads : length g.pads ≡ length f.pads
   pub answer : Moved n (moved_item n) f.answer g.answer
-
-further : (n a b : ℕ) → n + a + b ≡ n + (a + b)
-further n a b = omega arith
-
-between : (n a b : ℕ) → n + a - (n + b) ≡ a - b
-between n a b = omega arith
 
 less_moved : (n a b : ℕ) → ltb (n + a) (n + b) ≡ ltb a b
 less_moved n a b =

@@ -1,3 +1,2 @@
 -- Definitions that only private functions' contracts cite: a reader of the crate needs none of them.
 pub mod Inner
-pub mod Fields

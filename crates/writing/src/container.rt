@@ -1,38 +1,38 @@
 // Writes a list, a sexp or an unordered struct around a body that is already written.
-ghost use Rattle.std.specs.Prelude.{◌≡◌, length};
+ghost use Rattle.std.specs.Prelude.{◌≡◌, true, false, length, MatchOption};
 ghost use Rattle.writing.specs.Things.{container, written};
 ghost use Rattle.writing.specs.Answers.{is_container, rules_of, limited_write, buffer_after};
 ghost use Rattle.writing.specs.Read.{written_read};
 
-use crate::written::{past_nine, put_typed, refused};
+use crate::written::{Typed, refused};
 use checking::check::check_body;
-use numbers::refusal::{Reason, Refusal};
+use numbers::refusal::{LIMIT_OUT_OF_RANGE, OUTSIDE, Reason, Refusal};
 use stepping::cursor::Rules;
-use walking::walk::limits_out;
+use walking::walk::Limits;
 
-// The type code of a struct. A type code is the document's own number, as callers in C have it.
+// The type codes of the containers. A type code is the document's own number, as callers in C have it.
+const LIST: usize = 11;
+
+const SEXP: usize = 12;
+
 const STRUCT: usize = 13;
 
-// Whether a type is a container's: a list's, a sexp's or a struct's.
-#[tactic(auto, unfolding(crate::specs::Answers::is_container))]
-fn is_container(type_code: usize) -> bool
-    ensures { result ≡ is_container type_code }
+// The rules of a container's body, by its type; None for a type that is no container's. By a descriptor made for it, as `judge_scalar` does, it is longer: the
+// code would first be tested to fit one.
+#[tactic(auto, using(std::proofs::lemmas::Bool::Decides::nat_tests), unfolding(crate::specs::Answers::is_container))]
+fn rules_of(type_code: usize) -> Option<Rules>
+    ensures { MatchOption result (is_container type_code ≡ false) (λ r. (is_container type_code ≡ true) × (r ≡ rules_of type_code)) }
 {
-    matches!(type_code, 11..=13)
-}
-
-// The rules of a container's body.
-fn rules_of(type_code: usize) -> Rules
-    ensures { result ≡ rules_of type_code }
-{
-    if type_code == STRUCT {
-        return Rules::Fields;
+    match type_code {
+        LIST | SEXP => Some(Rules::Sequence),
+        STRUCT => Some(Rules::Fields),
+        _ => None,
     }
-    Rules::Sequence
 }
 
 // Writes a container by its type code and its body. `limit` is the most bytes that a value's annotations may have, `deepest` the depth at which a container is
 // too deep.
+#[tactic(auto, using(std::proofs::lemmas::Bool::Decides::nat_tests, numbers::proofs::Passing::passed_on, crate::proofs::Stages::stages), unfolding(crate::specs::Answers::write_of, crate::specs::Answers::limited_write, crate::specs::Answers::judged_container))]
 pub fn write_container(
     type_code: usize,
     body: &[u8],
@@ -43,15 +43,16 @@ pub fn write_container(
     ensures answers { written_read result ≡ limited_write limit deepest (container type_code body.now) (length to.old) }
     ensures puts { to.new ≡ buffer_after (written (container type_code body.now)) to.old (written_read result) }
 {
-    if limits_out(limit, deepest) {
-        return refused(Reason::LimitOutOfRange, 0);
-    }
-    if !is_container(type_code) {
-        return refused(Reason::Outside, 0);
-    }
-    if past_nine(body.len()) {
+    let Some(limits) = Limits::new(limit, deepest) else {
+        return Err(LIMIT_OUT_OF_RANGE);
+    };
+    let Some(rules) = rules_of(type_code) else {
+        return Err(OUTSIDE);
+    };
+    // By `as`: the code is in range, and `u8::try_from` would have a refusal that never comes.
+    let Some(value) = Typed::new(type_code as u8, body) else {
         return refused(Reason::NoSuchLength, 0);
-    }
-    check_body(body, rules_of(type_code), deepest - 1, limit)?;
-    put_typed(to, type_code as u8, body)
+    };
+    check_body(body, rules, limits.depth - 1, limits.bytes)?;
+    value.put(to)
 }

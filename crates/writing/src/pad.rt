@@ -1,12 +1,11 @@
 // Writes pads.
-ghost use Rattle.std.specs.Prelude.{◌≡◌, false, ℕ, ◌≤◌, length};
+ghost use Rattle.std.specs.Prelude.{◌≡◌, true, false, ℕ, ◌≤◌, length, MatchOption};
 ghost use Rattle.std.proofs.lemmas.List.Edits.{sets};
 ghost use Rattle.writing.specs.Things.{pad, pad_field, pad_head, pad_bytes, written};
 ghost use Rattle.writing.specs.Answers.{no_pad, write_of, buffer_after};
 ghost use Rattle.writing.specs.Read.{written_read};
-ghost use Rattle.writing.specs.Private.Fields.{field_in_nine};
 
-use crate::written::{MOST_BYTES, refused};
+use crate::written::{MOST_BYTES, refused, room_for};
 use encoding::put::{put_byte, put_var_uint_in, var_uint_size};
 use numbers::refusal::{Reason, Refusal};
 
@@ -16,57 +15,71 @@ const LONG: usize = 15;
 // The length code of a pad with a length field.
 const FIELD_CODE: u8 = 14;
 
-// How many bytes the length field of a pad of this size has: the fewest that give the size, and none where nine don't.
-fn pad_field(size: usize) -> Option<usize>
-    ensures { result ≡ field_in_nine size }
-{
-    if size < LONG {
-        return Some(0);
-    }
-    for k in 1..=MOST_BYTES {
-        if var_uint_size(size - 1 - k) <= k {
-            return Some(k);
+// A pad by its total size, and how many bytes its length field has: the fewest that give the size.
+#[derive(Clone, Copy)]
+struct Pad {
+    size: usize,
+    field: usize,
+    ghost told: { no_pad size ≡ false },
+    ghost fewest: { field ≡ pad_field size },
+}
+
+impl Pad {
+    // None where the size is none, or nine bytes don't give it.
+    #[tactic(auto, using(std::proofs::lemmas::Bool::Decides::nat_tests, crate::proofs::Pads::fields), unfolding(crate::specs::Answers::no_pad))]
+    fn new(size: usize) -> Option<Pad>
+        ensures { MatchOption result (no_pad size ≡ true) (λ p. p.size ≡ size) }
+    {
+        if size == 0 {
+            return None;
         }
+        if size < LONG {
+            return Some(Pad { size, field: 0 });
+        }
+        // By `find` over the range this was tried, and its proof did not close.
+        for field in 1..=MOST_BYTES {
+            if var_uint_size(size - 1 - field) <= field {
+                return Some(Pad { size, field });
+            }
+        }
+        None
     }
-    None
-}
 
-// Puts the descriptor and the length field, of `field` bytes, of a pad of this size.
-fn put_pad_head(to: &mut [u8], size: usize, field: usize)
-    requires { (no_pad size ≡ false) × (field ≡ pad_field size) }
-    ensures { to.new ≡ sets to.old 0 (pad_head size) }
-{
-    if size < LONG {
-        put_byte(to, 0, (size - 1) as u8);
-        return;
+    // Puts its descriptor and its length field.
+    #[tactic(auto, using(crate::proofs::Pads::heads))]
+    fn put_head(self, to: &mut [u8])
+        ensures { to.new ≡ sets to.old 0 (pad_head self.size) }
+    {
+        if self.size < LONG {
+            // By `as`: the size is in range, and `u8::try_from` would have a case that never comes.
+            put_byte(to, 0, (self.size - 1) as u8);
+            return;
+        }
+        put_byte(to, 0, FIELD_CODE);
+        put_var_uint_in(to, 1, self.field - 1, self.size - 1 - self.field);
     }
-    put_byte(to, 0, FIELD_CODE);
-    put_var_uint_in(to, 1, field - 1, size - 1 - field);
-}
 
-// Puts a pad of this size, whose length field has `field` bytes.
-fn put_pad(to: &mut [u8], size: usize, field: usize)
-    requires { (no_pad size ≡ false) × (field ≡ pad_field size) × (size ≤ length to.old) }
-    ensures { to.new ≡ sets to.old 0 (pad_bytes size) }
-{
-    put_pad_head(to, size, field);
-    to[1 + field..size].fill(0);
+    // Puts it at the start of a buffer that it fits.
+    #[tactic(auto, using(crate::proofs::Pads::puts))]
+    fn put(self, to: &mut [u8])
+        requires { self.size ≤ length to.old }
+        ensures { to.new ≡ sets to.old 0 (pad_bytes self.size) }
+    {
+        self.put_head(to);
+        to[1 + self.field..self.size].fill(0);
+    }
 }
 
 // Writes a pad of this total size.
+#[tactic(auto, using(std::proofs::lemmas::Bool::Decides::nat_tests, numbers::proofs::Passing::passed_on, crate::proofs::Pads::stores), unfolding(crate::specs::Answers::write_of))]
 pub fn write_pad(size: usize, to: &mut [u8]) -> Result<usize, Refusal>
     ensures answers { (limit deepest : ℕ) → written_read result ≡ write_of limit deepest (pad size) (length to.old) }
     ensures puts { to.new ≡ buffer_after (written (pad size)) to.old (written_read result) }
 {
-    if size == 0 {
-        return refused(Reason::NoSuchLength, 0);
-    }
-    let Some(field) = pad_field(size) else {
+    let Some(pad) = Pad::new(size) else {
         return refused(Reason::NoSuchLength, 0);
     };
-    if to.len() < size {
-        return refused(Reason::NoRoomToWrite, size);
-    }
-    put_pad(to, size, field);
+    let size = room_for(to, size)?;
+    pad.put(to);
     Ok(size)
 }

@@ -1,19 +1,19 @@
 // Writes nulls and scalars: a null of a type, a bool, an int, a float, a symbol, and the types that are given as bodies.
-ghost use Rattle.std.specs.Prelude.{◌≡◌, [], ◌∷◌, ℕ, ◌<◌, length};
+ghost use Rattle.std.specs.Prelude.{◌≡◌, [], ◌∷◌, ℕ, ◌≤◌, ◌<◌, length, MatchOption};
 ghost use Rattle.checking.specs.Reading.{done};
 ghost use Rattle.checking.specs.Read.{done_read};
 ghost use Rattle.writing.specs.Things.{null, bool, int, float, symbol, scalar, null_byte, bool_byte, int_type, significant, written};
 ghost use Rattle.writing.specs.Answers.{has_body, judged_scalar, fitted, write_of, buffer_after};
 ghost use Rattle.writing.specs.Read.{written_read};
 
-use crate::written::{past_nine, put_typed, refused};
+use crate::written::{Typed, refused, room_for};
 use bodies::magnitude::significant;
 use checking::item::read_body;
 use framing::binary_buffer::bare_value;
-use numbers::refusal::{Reason, Refusal};
+use numbers::refusal::{OUTSIDE, Reason, Refusal};
 use values::value::read_placed;
 
-// The type codes of what is written.
+// The type codes of what is written: the document's own numbers, as callers in C have them.
 const POSITIVE_INT: u8 = 2;
 
 const NEGATIVE_INT: u8 = 3;
@@ -31,38 +31,42 @@ const LAST_TYPE: usize = 13;
 const LEAST_TIMESTAMP: usize = 2;
 
 // Puts a thing of one byte at the buffer's start, if it fits.
+#[tactic(auto, using(numbers::proofs::Passing::passed_on))]
 fn put_one(to: &mut [u8], byte: u8) -> Result<usize, Refusal>
     ensures answers { written_read result ≡ fitted (length to.old) 1 done }
     ensures puts { to.new ≡ buffer_after (byte ∷ []) to.old (written_read result) }
 {
-    if to.is_empty() {
-        return refused(Reason::NoRoomToWrite, 1);
-    }
+    let size = room_for(to, 1)?;
     to[0] = byte;
-    Ok(1)
+    Ok(size)
 }
 
-// The byte of a null: an int's is that of the positive ones.
-#[tactic(auto, unfolding(crate::specs::Things::null_byte))]
-fn null_byte(type_code: u8) -> u8
-    requires { type_code < 14 }
-    ensures { result ≡ null_byte type_code }
+// The byte of a type's null: an int's is that of the positive ones. None for a code that is no type's.
+#[tactic(auto, using(std::proofs::lemmas::Bool::Decides::nat_tests), unfolding(crate::specs::Things::null_byte))]
+fn null_byte(type_code: usize) -> Option<u8>
+    ensures { MatchOption result (13 < type_code) (λ b. (type_code ≤ 13) × (b ≡ null_byte type_code)) }
 {
-    if type_code == NEGATIVE_INT {
-        return POSITIVE_INT * 16 + 15;
+    if LAST_TYPE < type_code {
+        return None;
     }
-    type_code * 16 + 15
+    // By `as`: the code is in range, and `u8::try_from` would have a case that never comes.
+    let code = type_code as u8;
+    if code == NEGATIVE_INT {
+        return Some(POSITIVE_INT * 16 + 15);
+    }
+    Some(code * 16 + 15)
 }
 
 // Writes a null of a type, by its type code.
+#[tactic(auto, using(std::proofs::lemmas::Bool::Decides::nat_tests), unfolding(crate::specs::Answers::write_of))]
 pub fn write_null(type_code: usize, to: &mut [u8]) -> Result<usize, Refusal>
     ensures answers { (limit deepest : ℕ) → written_read result ≡ write_of limit deepest (null type_code) (length to.old) }
     ensures puts { to.new ≡ buffer_after (written (null type_code)) to.old (written_read result) }
 {
-    if LAST_TYPE < type_code {
-        return refused(Reason::Outside, 0);
-    }
-    put_one(to, null_byte(type_code as u8))
+    let Some(byte) = null_byte(type_code) else {
+        return Err(OUTSIDE);
+    };
+    put_one(to, byte)
 }
 
 // The byte of a bool.
@@ -74,6 +78,7 @@ fn bool_byte(value: bool) -> u8
 }
 
 // Writes a bool.
+#[tactic(auto, using(std::proofs::lemmas::Bool::Decides::nat_tests), unfolding(crate::specs::Answers::write_of))]
 pub fn write_bool(value: bool, to: &mut [u8]) -> Result<usize, Refusal>
     ensures answers { (limit deepest : ℕ) → written_read result ≡ write_of limit deepest (bool value) (length to.old) }
     ensures puts { to.new ≡ buffer_after (written (bool value)) to.old (written_read result) }
@@ -82,6 +87,7 @@ pub fn write_bool(value: bool, to: &mut [u8]) -> Result<usize, Refusal>
 }
 
 // A number's bytes, the most significant first, without leading zero bytes.
+#[tactic(auto, using(crate::proofs::Stages::magnitudes))]
 fn without_zeros(magnitude: &[u8]) -> &[u8]
     ensures { result.now ≡ significant magnitude.now }
 {
@@ -97,37 +103,54 @@ fn int_type(negative: bool) -> u8
 }
 
 // Writes an int of this sign and magnitude, the most significant byte first, without leading zero bytes.
+#[tactic(auto, using(std::proofs::lemmas::Bool::Decides::nat_tests), unfolding(crate::specs::Answers::write_of, crate::specs::Answers::judged_int))]
 pub fn write_int(negative: bool, magnitude: &[u8], to: &mut [u8]) -> Result<usize, Refusal>
     ensures answers { (limit deepest : ℕ) → written_read result ≡ write_of limit deepest (int negative magnitude.now) (length to.old) }
     ensures puts { to.new ≡ buffer_after (written (int negative magnitude.now)) to.old (written_read result) }
 {
     let body = without_zeros(magnitude);
-    if past_nine(body.len()) {
+    let Some(value) = Typed::new(int_type(negative), body) else {
         return refused(Reason::NoSuchLength, 0);
-    }
+    };
     if negative && body.is_empty() {
         return refused(Reason::NegativeZeroInt, 0);
     }
-    put_typed(to, int_type(negative), body)
+    value.put(to)
 }
 
 // Writes the float with these bits: in eight bytes, and positive zero in none.
+#[tactic(auto, using(std::proofs::lemmas::Bool::Decides::nat_tests, crate::proofs::Stages::eight_bytes, crate::proofs::Lengths::told), unfolding(crate::specs::Answers::write_of, crate::specs::Things::float_body))]
 pub fn write_float(bits: u64, to: &mut [u8]) -> Result<usize, Refusal>
     ensures answers { (limit deepest : ℕ) → written_read result ≡ write_of limit deepest (float bits) (length to.old) }
     ensures puts { to.new ≡ buffer_after (written (float bits)) to.old (written_read result) }
 {
     if bits == 0 {
-        return put_typed(to, FLOAT, &[]);
+        let zero = Typed {
+            type_code: FLOAT,
+            body: &[],
+        };
+        return zero.put(to);
     }
-    put_typed(to, FLOAT, &bits.to_be_bytes())
+    let bytes = bits.to_be_bytes();
+    let value = Typed {
+        type_code: FLOAT,
+        body: &bytes,
+    };
+    value.put(to)
 }
 
 // Writes a symbol by its ID, without leading zero bytes.
+#[tactic(auto, using(std::proofs::lemmas::Bool::Decides::nat_tests, crate::proofs::Stages::eight_bytes, crate::proofs::Stages::significant_short, crate::proofs::Lengths::told), unfolding(crate::specs::Answers::write_of, crate::specs::Things::symbol_body))]
 pub fn write_symbol(id: u64, to: &mut [u8]) -> Result<usize, Refusal>
     ensures answers { (limit deepest : ℕ) → written_read result ≡ write_of limit deepest (symbol id) (length to.old) }
     ensures puts { to.new ≡ buffer_after (written (symbol id)) to.old (written_read result) }
 {
-    put_typed(to, SYMBOL, without_zeros(&id.to_be_bytes()))
+    let bytes = id.to_be_bytes();
+    let value = Typed {
+        type_code: SYMBOL,
+        body: without_zeros(&bytes),
+    };
+    value.put(to)
 }
 
 // Whether a type is given as a body: a decimal, a timestamp, a string, a clob or a blob.
@@ -139,10 +162,11 @@ fn has_body(type_code: usize) -> bool
 }
 
 // Reads a body as the reader would.
-fn judge_scalar(type_code: u8, body: &[u8]) -> Result<(), Refusal>
-    requires { type_code < 14 }
-    ensures { done_read result ≡ judged_scalar type_code body.now }
+#[tactic(auto, using(std::proofs::lemmas::Bool::Decides::nat_tests, crate::proofs::Stages::placed), unfolding(crate::specs::Answers::judged_scalar, framing::specs::Answers::short_timestamp, checking::specs::Reading::read_content))]
+fn judge_scalar(value: Typed) -> Result<(), Refusal>
+    ensures { done_read result ≡ judged_scalar value.entry.type_code value.entry.body.now }
 {
+    let Typed { type_code, body } = value;
     if type_code == TIMESTAMP && body.len() < LEAST_TIMESTAMP {
         return refused(Reason::TimestampTooShort, 0);
     }
@@ -151,17 +175,18 @@ fn judge_scalar(type_code: u8, body: &[u8]) -> Result<(), Refusal>
 }
 
 // Writes a decimal, a timestamp, a string, a clob or a blob, by its type code and its representation.
+#[tactic(auto, using(std::proofs::lemmas::Bool::Decides::nat_tests, numbers::proofs::Passing::passed_on), unfolding(crate::specs::Answers::write_of, crate::specs::Answers::has_body))]
 pub fn write_scalar(type_code: usize, body: &[u8], to: &mut [u8]) -> Result<usize, Refusal>
     ensures answers { (limit deepest : ℕ) → written_read result ≡ write_of limit deepest (scalar type_code body.now) (length to.old) }
     ensures puts { to.new ≡ buffer_after (written (scalar type_code body.now)) to.old (written_read result) }
 {
     if !has_body(type_code) {
-        return refused(Reason::Outside, 0);
+        return Err(OUTSIDE);
     }
-    if past_nine(body.len()) {
+    // By `as`: the code is in range, and `u8::try_from` would have a refusal that never comes.
+    let Some(value) = Typed::new(type_code as u8, body) else {
         return refused(Reason::NoSuchLength, 0);
-    }
-    let code = type_code as u8;
-    judge_scalar(code, body)?;
-    put_typed(to, code, body)
+    };
+    judge_scalar(value)?;
+    value.put(to)
 }

@@ -1,7 +1,6 @@
 // Writes a wrapper of annotations around a value that is already written.
-ghost use Rattle.std.specs.Prelude.{◌≡◌, false, ◌+◌, ◌<◌, length};
+ghost use Rattle.std.specs.Prelude.{◌≡◌, true, false, ◌+◌, ◌<◌, length, MatchOption};
 ghost use Rattle.framing.specs.Spans.{Spans};
-ghost use Rattle.framing.specs.Limits.{out_of_range};
 ghost use Rattle.framing.specs.Read.{framed_read};
 ghost use Rattle.checking.specs.Reading.{done};
 ghost use Rattle.checking.specs.Read.{done_read};
@@ -12,16 +11,16 @@ ghost use Rattle.writing.specs.Answers.{past_nine, lent_value, judged_parts, jud
 ghost use Rattle.writing.specs.Read.{written_read};
 ghost use Rattle.writing.specs.Private.Inner.{inner_fault};
 
-use crate::written::{past_nine, refused};
+use crate::written::{past_nine, refused, room_for};
 use checking::check::check_body;
 use checking::item::read_ids;
 use encoding::put::{head_size, put_bytes, put_head, put_var_uint, var_uint_size};
 use framing::binary_buffer::read_value;
 use framing::encoded_value::EncodedValue;
-use numbers::refusal::{Reason, Refusal};
+use numbers::refusal::{LIMIT_OUT_OF_RANGE, Reason, Refusal};
 use numbers::type_descriptor::{Kind, TypeDescriptor};
 use stepping::cursor::Rules;
-use walking::walk::limits_out;
+use walking::walk::Limits;
 
 // The descriptor of a wrapper, but for its length code.
 const WRAPPER: u8 = 14 * 16;
@@ -30,6 +29,7 @@ const WRAPPER: u8 = 14 * 16;
 const LARGEST: usize = 9223372036854775807;
 
 // Whether what is behind the wrapper's length, m bytes of annotations and their length and n bytes of a value, is past nine bytes of a VarUInt.
+#[tactic(auto, using(encoding::proofs::VarUInts::size_high, crate::proofs::Lengths::past))]
 fn wrapped_past_nine(m: usize, n: usize) -> bool
     ensures { result ≡ past_nine (var_uint_size m + (m + n)) }
 {
@@ -51,82 +51,92 @@ fn inner_fault(kind: Kind) -> Option<Reason>
     }
 }
 
-// The wrapper's value where it stands by itself.
-fn lent_value(value: &[u8], limit: usize) -> Result<EncodedValue, Refusal>
-    requires { (0 < length value.now) × (out_of_range limit ≡ false) }
-    ensures { framed_read result ≡ lent_value value.now }
-{
-    let descriptor = TypeDescriptor::from_byte(value[0]);
-    if let Some(reason) = inner_fault(descriptor.kind) {
-        return refused(reason, 0);
-    }
-    read_value(value, 0, value.len(), limit)
+// A wrapper to be written: its annotations and its value, whose length, with that of the annotations, nine bytes tell.
+#[derive(Clone, Copy)]
+struct Wrapper<'a> {
+    annotations: &'a [u8],
+    value: &'a [u8],
+    ghost short: { past_nine (length (wrapped_bytes annotations.now value.now)) ≡ false },
 }
 
-// Reads the annotations, and then the value, whose places are known, as the reader would.
-fn judge_parts(
-    annotations: &[u8],
-    value: &[u8],
-    end: usize,
-    limit: usize,
-    deepest: usize,
-) -> Result<(), Refusal>
-    requires { out_of_range limit ≡ false }
-    ensures { (v : Spans) → v.end ≡ end → done_read result ≡ judged_parts limit deepest annotations.now value.now v }
-{
-    if end != value.len() {
-        return refused(Reason::WrappedLengthDiffers, 0);
+impl<'a> Wrapper<'a> {
+    // None where nine bytes don't tell the length.
+    #[tactic(auto, using(encoding::proofs::Heads::wrapped_length))]
+    fn new(annotations: &'a [u8], value: &'a [u8]) -> Option<Wrapper<'a>>
+        ensures { MatchOption result (past_nine (length (wrapped_bytes annotations.now value.now)) ≡ true) (λ w. (w.annotations.now ≡ annotations.now) × (w.value.now ≡ value.now)) }
+    {
+        if wrapped_past_nine(annotations.len(), value.len()) {
+            return None;
+        }
+        Some(Wrapper { annotations, value })
     }
-    read_ids(annotations, 0, annotations.len())?;
-    check_body(value, Rules::Sequence, deepest, limit)
-}
 
-// Reads a wrapper's parts as the reader would.
-fn judge_wrapper(
-    annotations: &[u8],
-    value: &[u8],
-    limit: usize,
-    deepest: usize,
-) -> Result<(), Refusal>
-    requires { out_of_range limit ≡ false }
-    ensures { done_read result ≡ judged_wrapper limit deepest annotations.now value.now }
-{
-    if annotations.is_empty() {
-        return refused(Reason::NoAnnotations, 0);
+    // Its value where it stands by itself.
+    #[tactic(auto, using(crate::proofs::Stages::lent))]
+    fn lent_value(self, limits: Limits) -> Result<EncodedValue, Refusal>
+        requires { 0 < length self.value.now }
+        ensures { framed_read result ≡ lent_value self.entry.value.now }
+    {
+        let descriptor = TypeDescriptor::from_byte(self.value[0]);
+        if let Some(reason) = inner_fault(descriptor.kind) {
+            return refused(reason, 0);
+        }
+        read_value(self.value, 0, self.value.len(), limits.bytes)
     }
-    if value.is_empty() {
-        return refused(Reason::NoRoomForValue, 0);
-    }
-    if limit < annotations.len() {
-        return refused(Reason::TooManyAnnotations, 0);
-    }
-    let inner = lent_value(value, limit)?;
-    judge_parts(annotations, value, inner.end, limit, deepest)
-}
 
-// Puts a wrapper at the buffer's start, if it fits.
-fn put_wrapper(to: &mut [u8], annotations: &[u8], value: &[u8]) -> Result<usize, Refusal>
-    requires { past_nine (length (wrapped_bytes annotations.now value.now)) ≡ false }
-    ensures answers { written_read result ≡ fitted (length to.old) (length (wrapper_bytes annotations.now value.now)) done }
-    ensures puts { to.new ≡ buffer_after (wrapper_bytes annotations.now value.now) to.old (written_read result) }
-{
-    let m = annotations.len();
-    let field = var_uint_size(m);
-    let n = field + (m + value.len());
-    let head = head_size(n);
-    let size = head + n;
-    if to.len() < size {
-        return refused(Reason::NoRoomToWrite, size);
+    // Reads the annotations, and then the value, whose end is known, as the reader would.
+    #[tactic(auto, using(std::proofs::lemmas::Bool::Decides::nat_tests, numbers::proofs::Passing::passed_on, crate::proofs::Stages::stages), unfolding(crate::specs::Answers::judged_parts))]
+    fn judge_parts(self, end: usize, limits: Limits) -> Result<(), Refusal>
+        ensures { (v : Spans) → v.end ≡ end → done_read result ≡ judged_parts limits.bytes limits.depth self.entry.annotations.now self.entry.value.now v }
+    {
+        if end != self.value.len() {
+            return refused(Reason::WrappedLengthDiffers, 0);
+        }
+        read_ids(self.annotations, 0, self.annotations.len())?;
+        check_body(self.value, Rules::Sequence, limits.depth, limits.bytes)
     }
-    put_head(to, 0, WRAPPER, n);
-    put_var_uint(to, head, m);
-    put_bytes(to, head + field, annotations);
-    put_bytes(to, head + field + m, value);
-    Ok(size)
+
+    // Reads its parts as the reader would.
+    #[tactic(auto, using(std::proofs::lemmas::Bool::Decides::nat_tests, numbers::proofs::Passing::passed_on), unfolding(crate::specs::Answers::judged_wrapper))]
+    fn judge(self, limits: Limits) -> Result<(), Refusal>
+        ensures { done_read result ≡ judged_wrapper limits.bytes limits.depth self.entry.annotations.now self.entry.value.now }
+    {
+        if self.annotations.is_empty() {
+            return refused(Reason::NoAnnotations, 0);
+        }
+        if self.value.is_empty() {
+            return refused(Reason::NoRoomForValue, 0);
+        }
+        if limits.bytes < self.annotations.len() {
+            return refused(Reason::TooManyAnnotations, 0);
+        }
+        let inner = self.lent_value(limits)?;
+        self.judge_parts(inner.end, limits)
+    }
+
+    // Puts it at the buffer's start, if it fits. `put_wrap` of packing puts the same before a value that is not packed yet: a function for both would be public
+    // in encoding, and ask for room.
+    #[tactic(auto, using(numbers::proofs::Passing::passed_on, crate::proofs::Lengths::wrapper_put))]
+    fn put(self, to: &mut [u8]) -> Result<usize, Refusal>
+        ensures answers { written_read result ≡ fitted (length to.old) (length (wrapper_bytes self.entry.annotations.now self.entry.value.now)) done }
+        ensures puts { to.new ≡ buffer_after (wrapper_bytes self.entry.annotations.now self.entry.value.now) to.old (written_read result) }
+    {
+        let m = self.annotations.len();
+        let field = var_uint_size(m);
+        let n = field + (m + self.value.len());
+        let head = head_size(n);
+        let size = room_for(to, head + n)?;
+        put_head(to, 0, WRAPPER, n);
+        put_var_uint(to, head, m);
+        put_bytes(to, head + field, self.annotations);
+        put_bytes(to, head + field + m, self.value);
+        Ok(size)
+    }
 }
 
 // Writes a wrapper by its annotations and its value. `limit` is the most bytes that a value's annotations may have, `deepest` the depth at which a container is
 // too deep.
+#[tactic(auto, using(std::proofs::lemmas::Bool::Decides::nat_tests, numbers::proofs::Passing::passed_on, crate::proofs::Stages::stages), unfolding(crate::specs::Answers::write_of, crate::specs::Answers::limited_write))]
 pub fn write_wrapper(
     annotations: &[u8],
     value: &[u8],
@@ -137,12 +147,12 @@ pub fn write_wrapper(
     ensures answers { written_read result ≡ limited_write limit deepest (wrapper annotations.now value.now) (length to.old) }
     ensures puts { to.new ≡ buffer_after (written (wrapper annotations.now value.now)) to.old (written_read result) }
 {
-    if limits_out(limit, deepest) {
-        return refused(Reason::LimitOutOfRange, 0);
-    }
-    if wrapped_past_nine(annotations.len(), value.len()) {
+    let Some(limits) = Limits::new(limit, deepest) else {
+        return Err(LIMIT_OUT_OF_RANGE);
+    };
+    let Some(wrapper) = Wrapper::new(annotations, value) else {
         return refused(Reason::NoSuchLength, 0);
-    }
-    judge_wrapper(annotations, value, limit, deepest)?;
-    put_wrapper(to, annotations, value)
+    };
+    wrapper.judge(limits)?;
+    wrapper.put(to)
 }

@@ -1,10 +1,11 @@
 -- What the private functions of timestamp.rt answer; callers of the crate need none of this.
 -- Assumes nothing.
-use Rattle.std.specs.Prelude.{ℕ, ◌^◌, ◌≤◌, ◌<◌, ◌≡◌, true, Option, None, Some, Result, leb}
+use Rattle.std.specs.Prelude.{ℕ, ◌^◌, ◌≤◌, ◌<◌, ◌≡◌, true, List, Option, None, Some, Result, leb}
 use Rattle.numbers.specs.Outcome.{Outcome, gives, pick, and_then, refuse_if}
 use Rattle.numbers.specs.Read.{outcome}
 use Rattle.numbers.specs.declared.refusal.Refusal.{Refusal}
-use Rattle.timestamps.specs.Timestamp.{Fraction, Values, fields_of, too_wide}
+use Rattle.bodies.specs.Decimal.{decimal}
+use Rattle.timestamps.specs.Timestamp.{Fraction, Values, fields_of, fraction_from, too_wide}
 use Rattle.timestamps.specs.TimestampMeaning.{absent_fraction}
 use Rattle.timestamps.specs.declared.timestamp.Fields.{Fields}
 use Rattle.timestamps.specs.declared.timestamp.FieldsRead.{FieldsRead}
@@ -29,7 +30,7 @@ fraction_read (Some f) =
     }
 
 -- the fields of values, and where these end
-abbrev pub fields_given : Outcome Values → Outcome FieldsRead
+unfoldable pub fields_given : Outcome Values → Outcome FieldsRead
 fields_given o = and_then o (λ v. gives (record { fields = fields_of v.values; next = v.next }))
 
 abbrev pub fields_read : Result FieldsRead Refusal → Outcome FieldsRead
@@ -42,3 +43,7 @@ magnitude_answer m = pick (leb (256 ^ 8) m) None (Some m)
 -- a fraction whose coefficient's magnitude eight bytes hold, and the refusal of another
 abbrev pub measured : ℕ → Fraction → Outcome Fraction
 measured descriptor f = refuse_if (too_wide f) 63 descriptor (gives f)
+
+-- the fraction in the bytes from `at` on, measured
+unfoldable pub measured_from : ℕ → List ℕ → ℕ → ℕ → Outcome Fraction
+measured_from descriptor s end at = and_then (decimal s at end) (λ d. measured descriptor (fraction_from s end at d))

@@ -1,7 +1,7 @@
 -- `ion_map_steps` meets its contract: 51 before anything else, then what the part's rules refuse, then the records, their count and the last number.
 use Prim.Native.Nat.{ℕ, suc, ◌-◌, ◌*◌, ◌/◌, ◌≤◌}
 use native.Mathlib.Omega.{arith}
-use borrow.Author.Tests.{lt-ltb, le-ltb}
+use borrow.Author.Tests.{le-ltb}
 use mathlib.Core.Path.{◌≡◌, ◌∙◌, sym, ap}
 use mathlib.Core.List.{List, [], ◌∷◌}
 use lib.ListN.{length}
@@ -37,12 +37,6 @@ module _ (old : List ℕ) (h : record_size ≤ length old) (o : Outcome Item) wh
     out_after = p.out_after ∙ ap (λ (ws : List ℕ). record_in ws old) e ∙ one_record o old h ∙ ap (λ (os : List (Outcome Item)). records_in os old) (sym q);
     count_after = one_count ∙ ap (λ (os : List (Outcome Item)). count_in os old) (sym q);
   }
-
-pub returns-then-out-lt-RECORD_SIZE : goal.returns-then-out-lt-RECORD_SIZE
-unfolding returned_last records_in count_in
-returns-then-out-lt-RECORD_SIZE c =
-    let e = lt-ltb _ _ c.if-out-lt-RECORD_SIZE.true in
-    record { value = rw e c.number.ensures; out_after = rw e; count_after = rw e }
 
 -- where the part's rules are given, the steps go by them
 rules_given : (c : In-Ok) → let a = c.args in Given a.limit a.map.now a.start a.end a.position a.kind c.in-Ok.rules

@@ -1,7 +1,6 @@
 -- The cycle of calls {check_part, check_value}: a part's check goes on behind each item as from its start. A value's inside has less room than the value, so
 -- the measures are twice the room for a value and one more for a part.
 use Rattle.std.proofs.Common.{◌≡◌, ◌≤◌, ◌+◌, ◌-◌}
-use Rattle.checking.specs.Private.Items.{Below}
 use Rattle.checking.specs.Private.Whole.{full}
 use Rattle.checking.proofs.check.+check_part_check_value.Given as goal
 
@@ -13,9 +12,9 @@ decreases-check_value l = l.room + l.room
 
 abbrev pub invariant-check_part-loop-past : goal.invariant-check_part-loop-past
 invariant-check_part-loop-past l =
-    (l.from ≤ l.end)
-    × Below l.from l.counts.places
-    × (full l.map.limit l.map.s.now l.rules l.room l.end l.from l.counts.places ≡ full l.map.limit l.map.s.now l.rules l.room l.end l.at l.initial.counts.places)
+    let from = l.initial.progress in
+    (l.progress.at ≤ l.end)
+    × (full l.map.limit l.map.s.now l.rules l.room l.end l.progress.at l.progress.counts.places ≡ full l.map.limit l.map.s.now l.rules l.room l.end from.at from.counts.places)
 
 abbrev pub decreases-check_part-loop-past : goal.decreases-check_part-loop-past
-decreases-check_part-loop-past l = l.end - l.from
+decreases-check_part-loop-past l = l.end - l.progress.at

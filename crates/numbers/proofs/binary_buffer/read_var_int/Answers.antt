@@ -17,10 +17,6 @@ use Rattle.numbers.proofs.Grouping.{signed_by, var_int_one, var_int_groups}
 use Rattle.numbers.proofs.binary_buffer.read_var_int.Goals as goal
 use Rattle.numbers.proofs.binary_buffer.read_var_int.Goals.{After-read_groups, Else-outside}
 
-pub returns-then-outside : goal.returns-then-outside
-unfolding var_int var_number
-returns-then-outside c = rw (sym c.outside.ensures ∙ c.if-outside.true)
-
 pub returns-then-at-end : goal.returns-then-at-end
 unfolding var_int var_number
 returns-then-at-end c =

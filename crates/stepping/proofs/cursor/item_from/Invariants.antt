@@ -8,7 +8,7 @@ use Rattle.stepping.proofs.cursor.item_from.Given as goal
 
 abbrev pub invariant-loop-from : goal.invariant-loop-from
 invariant-loop-from l =
-    (l.from ≤ l.end) × (l.end ≤ length l.s) × (answer_from l.limit l.rules l.s l.from l.end (name_of l.name) ≡ answer_from l.limit l.rules l.s l.at l.end (record { value = l.id; next = l.next }))
+    (l.from ≤ l.end) × (l.end ≤ length l.s) × (answer_from l.limit l.rules l.s l.from l.end (name_of l.name) ≡ answer_from l.limit l.rules l.s l.at l.end (name_of l.fn.name))
 
 abbrev pub decreases-loop-from : goal.decreases-loop-from
 decreases-loop-from l = l.end - l.from

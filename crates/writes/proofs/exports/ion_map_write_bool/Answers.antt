@@ -1,14 +1,6 @@
--- `ion_map_write_bool` meets its contract: 51, 50 for a flag that is none, and else what is written and its record.
+-- `ion_map_write_bool` meets its contract: the closure answers and writes what is to be answered and written.
 use borrow.Author.Rules.{rules}
-use lib.ListN.{length}
-use lib.Dec.{eqb}
-use Rattle.writing.specs.Things.{bool, written}
-use Rattle.writing.specs.Answers.{write_of}
-use Rattle.writes.specs.Writes.{flagged}
-use Rattle.writes.proofs.Writing.{written_by}
 use Rattle.writes.proofs.exports.ion_map_write_bool.Goals as goal
 
 pub returns : goal.returns
-returns c =
-    let a = c.args in
-    λ limit deepest. written_by (flagged a.value (write_of limit deepest (bool (eqb a.value 1)) (length a.to.now))) (written (bool (eqb a.value 1))) a.to.now _ a.out.now _ _ c.put_written.ensures.short c.put_written.ensures.long (λ r p. (search rules, search rules))
+returns c = λ limit deepest. c.put_written.ensures _ _ (λ answer left p. (search rules, search rules))

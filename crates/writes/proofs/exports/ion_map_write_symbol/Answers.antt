@@ -1,12 +1,6 @@
--- `ion_map_write_symbol` meets its contract: 51, and else what is written and its record.
+-- `ion_map_write_symbol` meets its contract: the closure answers and writes what is to be answered and written.
 use borrow.Author.Rules.{rules}
-use lib.ListN.{length}
-use Rattle.writing.specs.Things.{symbol, written}
-use Rattle.writing.specs.Answers.{write_of}
-use Rattle.writes.proofs.Writing.{written_by}
 use Rattle.writes.proofs.exports.ion_map_write_symbol.Goals as goal
 
 pub returns : goal.returns
-returns c =
-    let a = c.args in
-    λ limit deepest. written_by (write_of limit deepest (symbol a.id) (length a.to.now)) (written (symbol a.id)) a.to.now _ a.out.now _ _ c.put_written.ensures.short c.put_written.ensures.long (λ r p. (search rules, search rules))
+returns c = λ limit deepest. c.put_written.ensures _ _ (λ answer left p. (search rules, search rules))

@@ -1,68 +1,33 @@
 -- `count` meets its contract: each return has counted all that there is, and each turn keeps what is counted.
-use Prim.Native.Nat.{ℕ, ◌+◌, ◌-◌, ◌≤◌, ◌<◌}
+use Prim.Native.Nat.{◌+◌, ◌≤◌}
 use native.Mathlib.Omega.{arith}
 use mathlib.Core.Path.{◌≡◌, ◌∙◌, sym, ap}
-use mathlib.Core.Bool.{false}
 use lib.ListN.{get_or}
-use Rattle.numbers.specs.Outcome.{Outcome, gives, outside_of}
+use Rattle.numbers.specs.Outcome.{gives}
 use Rattle.numbers.specs.Answers.{Unsigned}
 use Rattle.numbers.proofs.Outcomes.{inside_end}
-use Rattle.framing.specs.Spans.{Spans}
-use Rattle.framing.specs.Answers.{read_value}
 use Rattle.framing.specs.Read.{spans_of, short_value_read}
-use Rattle.framing.specs.ShortValue.{short_value, bare_spans, short_value_of}
+use Rattle.framing.specs.ShortValue.{short_value}
 use Rattle.framing.proofs.ShortValues.{short_bounds}
-use Rattle.stepping.specs.Items.{Item, finish}
 use Rattle.stepping.specs.Names.{name_at, item_by}
 use Rattle.stepping.specs.Read.{places_of, item_read, name_of, named_read}
-use Rattle.stepping.specs.declared.cursor.Item.{Item as ItemEnum}
 use Rattle.walking.specs.Calls.{end_at, calls, items_in}
 use Rattle.walking.specs.Private.State.{state_at}
-use Rattle.walking.proofs.Depths.{in_limit, depth_room}
-use Rattle.walking.proofs.Seeking.{step_here, outside_here, nothing_here, too_deep, barred_last, handed}
-use Rattle.walking.proofs.Counting.{none_called, named_item, after_named, after_moved}
-use Rattle.walking.proofs.Turns.{Counted, stopped, refused, ended, rose, went}
-use Rattle.walking.proofs.Meeting.{behind_name, short_here, named_here, unnamed_here}
+use Rattle.walking.proofs.Depths.{depth_room}
+use Rattle.walking.proofs.Seeking.{handed}
+use Rattle.walking.proofs.Counting.{named_item, after_named, after_moved}
+use Rattle.walking.proofs.Turns.{Counted, went, unnamed_counted, name_in_slice, refused_counted, over_counted, over_risen}
+use Rattle.std.specs.Prelude.{Ok}
+use borrow.Author.Rules.{rules}
+use Rattle.walking.proofs.Meeting.{short_here, named_here}
 use Rattle.walking.proofs.walk.Walk.count.Goals as goal
-use Rattle.walking.proofs.walk.Walk.count.Goals.{Else-outside, In-Ok, After-item_from, Joined-short_value, in-Some, in-None+in-Ok-item_from+in_default-item}
-
-pub returns-then-limits-depth : goal.returns-then-limits-depth
-returns-then-limits-depth c = stopped c.loop-count.invariant (too_deep _ _ _ _ c.if-limits-depth.true)
-
-pub returns-then-place : goal.returns-then-place
-returns-then-place c = stopped c.loop-count.invariant (barred_last _ _ _ _ c.if-place.true)
-
-pub returns-then-outside : goal.returns-then-outside
-returns-then-outside c =
-    let o = sym c.outside.ensures ∙ c.if-outside.true in
-    refused c.loop-count.invariant c.if-limits-depth.false c.if-place.false (outside_here c.args.limits.bytes c.args.s.now (state_at c.loop-count.self c.loop-count.place) (in_limit _ _ c.args.limits.in_range) o)
-
--- a place whose part ends there
-nothing : (c : Else-outside) → c.loop-count.place.at ≡ end_at c.loop-count.self c.loop-count.place.depth → step_here c.args.limits.bytes c.args.s.now (state_at c.loop-count.self c.loop-count.place) ≡ gives (finish (end_at c.loop-count.self c.loop-count.place.depth))
-nothing c e =
-    let w = state_at c.loop-count.self c.loop-count.place in
-    nothing_here c.args.limits.bytes c.args.s.now w (in_limit _ _ c.args.limits.in_range) e (inside_end c.args.s.now w.at (end_at w w.depth) (sym c.outside.ensures ∙ c.if-outside.false))
-
-pub returns-then-depth-eq0 : goal.returns-then-depth-eq0
-returns-then-depth-eq0 c =
-    ended c.loop-count.invariant c.if-limits-depth.false c.if-place.false c.if-depth-eq0.true (nothing (goal.at.returns-then-depth-eq0 c).Else-outside c.if-at-end.true)
-
-pub loop-count-preserved-then-at-end : goal.loop-count-preserved-then-at-end
-loop-count-preserved-then-at-end c =
-    rose c.loop-count.invariant c.if-limits-depth.false c.if-place.false _ (sym c.outside.ensures ∙ c.if-outside.false) (omega (arith, c.if-depth-eq0.false)) (nothing (goal.at.loop-count-preserved-then-at-end c).Else-outside c.if-at-end.true) (ap (state_at c.loop-count.self) c.new-place.ensures)
-
--- the name that is read
-named : (c : In-Ok) → name_at c.rules_at-rules.result c.args.s.now c.loop-count.place.at (end_at c.loop-count.self c.loop-count.place.depth) ≡ gives (name_of c.in-Ok.name)
-named c = sym c.read_name.ensures ∙ ap named_read c.in-Ok.is
+use Rattle.walking.proofs.walk.Walk.count.Goals.{Joined-short_value, in-Some, in-None+in-Ok-item_from+in_default-item}
 
 pub returns-in_default : goal.returns-in_default
-returns-in_default c =
-    refused c.loop-count.invariant c.if-limits-depth.false c.if-place.false
-    (unnamed_here c.args.limits c.args.s.now (state_at c.loop-count.self c.loop-count.place) c.rules_at-rules.result c.rules_at-rules.ensures (sym c.outside.ensures ∙ c.if-outside.false) c.if-at-end.false (sym c.read_name.ensures ∙ ap named_read c.in_default.is))
+returns-in_default c = search (rules, unnamed_counted c.loop-count.invariant c.if-limits-depth.false c.if-place.false)
 
 pub bounds-s-name : goal.bounds-s-name
-bounds-s-name c =
-    behind_name c.args.limits c.args.s.now (state_at c.loop-count.self c.loop-count.place) c.rules_at-rules.result c.rules_at-rules.ensures (sym c.outside.ensures ∙ c.if-outside.false) c.if-at-end.false _ (named (goal.at.bounds-s-name c).In-Ok)
+bounds-s-name c = grind (arith, name_in_slice c.loop-count.invariant c.if-limits-depth.false c.if-place.false)
 
 pub overflow_add-past : goal.overflow_add-past
 overflow_add-past c =
@@ -71,27 +36,20 @@ overflow_add-past c =
     let e = sym (c.short_value.ensures 0) ∙ ap (short_value_read (get_or c.args.s.now n 0) n) c.in-Some.is in
     omega (arith, (short_bounds 0 c.args.s.now n (end_at w w.depth) e).within, inside_end c.args.s.now w.at (end_at w w.depth) (sym c.outside.ensures ∙ c.if-outside.false))
 
--- what stands behind the name is the step's answer
-stepped : (c : After-item_from) {o : Outcome Item} → item_read c.item_from.result ≡ o → step_here c.args.limits.bytes c.args.s.now (state_at c.loop-count.self c.loop-count.place) ≡ o
-stepped c h =
-    named_here c.args.limits c.args.s.now (state_at c.loop-count.self c.loop-count.place) c.rules_at-rules.result c.rules_at-rules.ensures (sym c.outside.ensures ∙ c.if-outside.false) c.if-at-end.false
-    (name_of c.in-Ok.name) (sym c.read_name.ensures ∙ ap named_read c.in-Ok.is) c.item_from.ensures
-    ∙ h
-
 pub returns-in_default-item_from : goal.returns-in_default-item_from
 returns-in_default-item_from c =
-    refused c.loop-count.invariant c.if-limits-depth.false c.if-place.false (stepped (goal.at.returns-in_default-item_from c).After-item_from (ap item_read c.in_default-item_from.is))
+    refused_counted c.loop-count.invariant c.if-limits-depth.false c.if-place.false (sym c.outside.ensures ∙ c.if-outside.false) c.rules_at-rules.ensures c.if-at-end.false c.read_name.ensures c.in-Ok.is
+    c.item_from.ensures c.in_default-item_from.is
 
 pub loop-count-preserved-in-End : goal.loop-count-preserved-in-End
 loop-count-preserved-in-End c =
-    rose c.loop-count.invariant c.if-limits-depth.false c.if-place.false _ (sym c.outside.ensures ∙ c.if-outside.false) c.if-depth-gt0.true
-    (stepped (goal.at.loop-count-preserved-in-End c).After-item_from (ap item_read c.in-Ok-item_from.is ∙ ap (λ (x : ItemEnum). gives (places_of x)) c.in-End.is))
-    (ap (state_at c.loop-count.self) c.new-place-in-End.ensures)
+    over_risen c.loop-count.invariant c.if-limits-depth.false c.if-place.false (sym c.outside.ensures ∙ c.if-outside.false) c.rules_at-rules.ensures c.if-at-end.false c.read_name.ensures c.in-Ok.is
+    c.item_from.ensures _ (c.in-Ok-item_from.is ∙ ap Ok c.in-End.is) c.if-depth-gt0.true (ap (state_at c.loop-count.self) c.new-place-in-End.ensures)
 
 pub returns-in-End-2 : goal.returns-in-End-2
 returns-in-End-2 c =
-    ended c.loop-count.invariant c.if-limits-depth.false c.if-place.false (omega (arith, c.if-depth-gt0.false))
-    (stepped (goal.at.returns-in-End-2 c).After-item_from (ap item_read c.in-Ok-item_from.is ∙ ap (λ (x : ItemEnum). gives (places_of x)) c.in-End-2.is))
+    over_counted c.loop-count.invariant c.if-limits-depth.false c.if-place.false (sym c.outside.ensures ∙ c.if-outside.false) c.rules_at-rules.ensures c.if-at-end.false c.read_name.ensures c.in-Ok.is
+    c.item_from.ensures (c.in-Ok-item_from.is ∙ ap Ok c.in-End-2.is) (omega (arith, c.if-depth-gt0.false))
 
 -- behind what is handed out there is one less to count
 turned : (c : Joined-short_value) → let w = state_at c.match-short_value.self c.match-short_value.place in Counted c.args.limits c.args.most (c.loop-count.count + 1) (items_in (calls c.args.limits.bytes c.args.limits.depth c.args.most c.args.s.now c.args.self.now)) c.args.s.now w × (w.depth ≤ c.args.limits.depth)
@@ -127,9 +85,3 @@ loop-count-smaller c =
 
 pub loop-count-preserved : goal.loop-count-preserved
 loop-count-preserved c = (turned c).0
-
-pub returns : goal.returns
-returns c =
-    let l = c.loop-count in
-    let z : c.args.most - l.count ≡ 0 = omega (arith, c.loop-count-test.false, l.invariant.below) in
-    omega (arith, l.invariant.sum, none_called c.args.limits.bytes c.args.limits.depth c.args.s.now (state_at l.self l.place) z)

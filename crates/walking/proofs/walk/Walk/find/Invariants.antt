@@ -8,6 +8,3 @@ use Rattle.walking.proofs.walk.Walk.find.Given as goal
 abbrev pub invariant-loop-depth : goal.invariant-loop-depth
 invariant-loop-depth l =
     (l.depth ≤ most_depth) × (seek l.limit l.s l.self l.depth l.at ≡ seek l.limit l.s l.self l.self.depth l.self.at)
-
-abbrev pub decreases-loop-depth : goal.decreases-loop-depth
-decreases-loop-depth l = l.depth
