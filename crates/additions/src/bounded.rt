@@ -12,15 +12,12 @@ use records::buffer::{RECORD_WORDS, put_record};
 use records::words::{item_words, more_words, refused_words};
 use stepping::cursor::Rules;
 
-// The words of a bounded step's answer. The arm of a refusal stands here too, as in the words of `records`.
+// The words of a bounded step's answer.
 fn bounded_words(answer: Bounded) -> [u64; RECORD_WORDS]
     ensures { result ≡ bounded_words (bounded_read answer) }
 {
     match answer {
-        Bounded::Reached(counted) => match counted.item {
-            Ok(item) => item_words(item),
-            Err(refusal) => refused_words(refusal),
-        },
+        Bounded::Reached(counted) => item_words(counted.item),
         Bounded::More { pads, at } => more_words(pads, at),
     }
 }

@@ -53,6 +53,12 @@ put_at old {o} {p} q e h f = record {
   out_after = h.out_after ∙ ap (λ (w : List ℕ). record_in w old) (e ∙ ap words q);
 }
 
+pub put_over : (old : List ℕ) {o p : Outcome Item} {n : ℕ} {new ws : List ℕ} → p ≡ o → ws ≡ words p → record { value : n ≡ returned_by ws old; out_after : new ≡ record_in ws old } → left_of p ≡ None → record { value : Break n ≡ put_by o old; out_after : new ≡ record_in (words o) old }
+put_over old {o} {p} q e h f = record {
+  value = ap (λ x. Break x) (h.value ∙ ap (λ (w : List ℕ). returned_by w old) e) ∙ sym (over_put p old f) ∙ ap (λ x. put_by x old) q;
+  out_after = h.out_after ∙ ap (λ (w : List ℕ). record_in w old) (e ∙ ap words q);
+}
+
 -- ---- and back
 
 -- an answer that leaves its caller at a place is no refusal

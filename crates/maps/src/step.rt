@@ -19,7 +19,7 @@ use numbers::refusal::{LIMIT_OUT_OF_RANGE, OUTSIDE, Refusal};
 use records::buffer::put_record;
 use records::words::{bare_words, end_words, item_words, refused_words};
 use std::ops::ControlFlow;
-use stepping::cursor::{Name, Rules, item_from, left_by, rules_of, short_name};
+use stepping::cursor::{Name, Rules, item_from, left_by, read_name, rules_of};
 
 // The last of the kinds of a part. The kind is tested beside the places, and not by `Rules::try_from`, which takes a step some 8 instructions more.
 const LAST_KIND: u64 = 2;
@@ -39,13 +39,13 @@ pub fn part_rules(
     if out_of_range(limit) {
         return Err(LIMIT_OUT_OF_RANGE);
     }
-    if outside(map, at, end) || at < start || LAST_KIND < kind {
+    if map.len() < end || end < at || at < start || LAST_KIND < kind {
         return Err(OUTSIDE);
     }
     Ok(rules_of(kind))
 }
 
-// Puts the record of whatever is no short value behind a short name; a name that was read is not read again.
+// Puts the record of whatever is no short value behind its name, which was read and is not read again.
 #[tactic(auto, using(crate::proofs::Putting::left_put, crate::proofs::Putting::over_put))]
 fn put_long(
     rules: Rules,
@@ -61,7 +61,7 @@ fn put_long(
 {
     match item_from(rules, map, at, name, end, limit) {
         Ok(item) => {
-            let number = put_record(out, item_words(item));
+            let number = put_record(out, item_words(Ok(item)));
             match left_by(Ok(item)) {
                 Some(past) => ControlFlow::Continue(past),
                 None => ControlFlow::Break(number),
@@ -72,7 +72,8 @@ fn put_long(
 }
 
 // Puts the record of the step at `at`, and tells where the step leaves its caller: at the next step, or nowhere, with the number that its call returns. The end
-// and a short value are read here. Each answer's words are put by themselves: one place for all of them would build the words in memory and copy them.
+// and a short value behind its name are read here. Each answer's words are put by themselves: one place for all of them would build the words in memory and
+// copy them.
 #[tactic(auto, using(crate::proofs::Putting::refused_put, crate::proofs::Putting::over_put, crate::proofs::Within::refused_unranged, crate::proofs::Within::refused_outside, stepping::proofs::Moves::moves_end, numbers::proofs::Outcomes::inside_order, numbers::proofs::Outcomes::inside_end))]
 pub fn put_step(
     rules: Rules,
@@ -94,18 +95,18 @@ pub fn put_step(
     if end <= at {
         return ControlFlow::Break(put_record(out, end_words(end)));
     }
-    let short = short_name(rules, map, at, end);
-    if let Some(name) = short {
-        if let Some(length) = short_value(map, name.next, end) {
-            let past = length.body + length.size;
-            put_record(
-                out,
-                bare_words(rules, at, name, map[name.next], length, past),
-            );
-            return ControlFlow::Continue(past);
+    match read_name(rules, map, at, end) {
+        Ok(name) => {
+            if let Some(length) = short_value(map, name.next, end) {
+                let past = length.body + length.size;
+                put_record(
+                    out,
+                    bare_words(rules, at, name, map[name.next], length, past),
+                );
+                return ControlFlow::Continue(past);
+            }
+            put_long(rules, map, at, name, end, limit, out)
         }
+        Err(refusal) => ControlFlow::Break(put_record(out, refused_words(refusal))),
     }
-    // None as a name of no bytes: `item_from` takes a name that is still to be read.
-    let name = short.unwrap_or(Name { id: 0, next: at });
-    put_long(rules, map, at, name, end, limit, out)
 }

@@ -77,7 +77,7 @@ var_uint_one s at end h k b =
     ∙ groups_here 3 0 s at at end h k b (omega arith)
     ∙ ap (λ (x : ℕ). gives (record { value = x; next = at + 1 })) (omega arith)
 
--- a VarUInt goes on after bytes that are not the last: after one and after two
+-- a VarUInt goes on after bytes that are not the last: after one, two and three
 pub goes_on_one : (s : List ℕ) (at end : ℕ) → at < end → end ≤ length s → get_or s at 0 < 128 → var_uint s at end ≡ groups 3 (get_or s at 0) s at (at + 1) end
 goes_on_one s at end h k a =
     var_uint_groups s at end (omega arith) k
@@ -86,6 +86,11 @@ goes_on_one s at end h k a =
 
 pub goes_on_two : (s : List ℕ) (at end : ℕ) → at + 1 < end → end ≤ length s → get_or s at 0 < 128 → get_or s (at + 1) 0 < 128 → var_uint s at end ≡ groups 3 (get_or s at 0 * 128 + get_or s (at + 1) 0 % 128) s at (at + 1 + 1) end
 goes_on_two s at end h k a b = goes_on_one s at end (omega arith) k a ∙ groups_on 3 (get_or s at 0) s at (at + 1) end h k b
+
+pub goes_on_three : (s : List ℕ) (at end : ℕ) → at + 1 + 1 < end → end ≤ length s → get_or s at 0 < 128 → get_or s (at + 1) 0 < 128 → get_or s (at + 1 + 1) 0 < 128 → var_uint s at end ≡ groups 3 ((get_or s at 0 * 128 + get_or s (at + 1) 0 % 128) * 128 + get_or s (at + 1 + 1) 0 % 128) s at (at + 1 + 1 + 1) end
+goes_on_three s at end h k a b c =
+    goes_on_two s at end (omega arith) k a b
+    ∙ groups_on 3 (get_or s at 0 * 128 + get_or s (at + 1) 0 % 128) s at (at + 1 + 1) end h k c
 
 -- a VarUInt of two bytes
 pub var_uint_two : (s : List ℕ) (at end : ℕ) → at + 1 < end → end ≤ length s → get_or s at 0 < 128 → 128 ≤ get_or s (at + 1) 0 → var_uint s at end ≡ gives (record { value = get_or s at 0 * 128 + get_or s (at + 1) 0 % 128; next = at + 1 + 1 })

@@ -1,6 +1,6 @@
 -- A VarUInt of three bytes at most: what is read as one is the VarUInt, and there is none where three bytes have no last one.
 -- Assumes nothing.
-use Prim.Native.Nat.{ℕ, ◌+◌, ◌-◌, ◌≤◌, ◌<◌}
+use Prim.Native.Nat.{ℕ, ◌+◌, ◌-◌, ◌*◌, ◌%◌, ◌≤◌, ◌<◌}
 use native.Mathlib.Omega.{arith}
 use native.Mathlib.Nat.{eq-or-lt_of_le}
 use mathlib.Core.Path.{◌≡◌, refl, ap, subst}
@@ -13,6 +13,8 @@ use Rattle.numbers.specs.Outcome.{Outcome, gives, refuses}
 use Rattle.numbers.specs.Answers.{Unsigned, unsigned, var_uint}
 use Rattle.numbers.specs.ShortVarUInt.{short_bytes, short, none, short_var_uint_of}
 use Rattle.numbers.specs.Format.{NumberAt}
+use Rattle.numbers.specs.Private.Groups.{GoesOn}
+use Rattle.numbers.proofs.Grouping.{var_uint_groups, goes_on_one, goes_on_two, goes_on_three}
 use Rattle.numbers.proofs.Outcomes.{by_test, Each, given, refused, each_of}
 use Rattle.numbers.proofs.Meaning.{ReadAt, var_uint_at, found_at, Bounded, var_uint_bounded}
 
@@ -69,3 +71,53 @@ short_none s at end first second third = none_if at (var_uint s at end) (λ u e.
         let three : at + 1 + 1 + 1 ≤ l = before_last s (at + 1 + 1) l b two (third (omega arith) k) in
         let e : u.next ≡ r.next = ap (λ (x : Unsigned). x.next) r.is in
         omega arith
+
+-- it goes on past the bytes read, none of them the last: the part has no more than those, or there are three
+module _ (s : List ℕ) (at end : ℕ) (k : end ≤ length s) where
+  pub more_none : at ≡ end → GoesOn s at end 0 at
+  more_none e =
+      let n : at - at ≡ 0 = omega arith in
+      record {
+        begins = omega arith;
+        ends = omega arith;
+        within = k;
+        small = rw n (omega arith);
+        rest = var_uint_groups s at end (omega arith) k;
+        long = short_none s at end (λ h m. omega arith) (λ h m. omega arith) (λ h m. omega arith);
+      }
+
+  pub more_one : at + 1 ≡ end → get_or s at 0 < 128 → GoesOn s at end (get_or s at 0) (at + 1)
+  more_one e a =
+      let n : at + 1 - at ≡ 1 = omega arith in
+      record {
+        begins = omega arith;
+        ends = omega arith;
+        within = k;
+        small = rw n (omega arith);
+        rest = goes_on_one s at end (omega arith) k a;
+        long = short_none s at end (λ h m. a) (λ h m. omega arith) (λ h m. omega arith);
+      }
+
+  pub more_two : at + 1 + 1 ≡ end → get_or s at 0 < 128 → get_or s (at + 1) 0 < 128 → GoesOn s at end (get_or s at 0 * 128 + get_or s (at + 1) 0 % 128) (at + 1 + 1)
+  more_two e a b =
+      let n : at + 1 + 1 - at ≡ 2 = omega arith in
+      record {
+        begins = omega arith;
+        ends = omega arith;
+        within = k;
+        small = rw n (omega arith);
+        rest = goes_on_two s at end (omega arith) k a b;
+        long = short_none s at end (λ h m. a) (λ h m. b) (λ h m. omega arith);
+      }
+
+  pub more_three : at + 1 + 1 < end → get_or s at 0 < 128 → get_or s (at + 1) 0 < 128 → get_or s (at + 1 + 1) 0 < 128 → GoesOn s at end ((get_or s at 0 * 128 + get_or s (at + 1) 0 % 128) * 128 + get_or s (at + 1 + 1) 0 % 128) (at + 1 + 1 + 1)
+  more_three e a b c =
+      let n : at + 1 + 1 + 1 - at ≡ 3 = omega arith in
+      record {
+        begins = omega arith;
+        ends = omega arith;
+        within = k;
+        small = rw n (omega arith);
+        rest = goes_on_three s at end e k a b c;
+        long = short_none s at end (λ h m. a) (λ h m. b) (λ h m. c);
+      }

@@ -8,12 +8,13 @@ ghost use Rattle.numbers.specs.Answers.{most_bytes, var_uint, var_int, int, int_
 ghost use Rattle.numbers.specs.ShortVarUInt.{short_var_uint_of};
 ghost use Rattle.numbers.specs.Refusals.{number_of};
 ghost use Rattle.numbers.specs.Read.{refusal_read, var_uint_read, short_var_uint_read, var_int_read, int_read};
-ghost use Rattle.numbers.specs.Private.Groups.{groups};
+ghost use Rattle.numbers.specs.Private.Groups.{groups, Begins};
 
 use crate::int::Int;
 use crate::refusal::{OUTSIDE, Reason, Refusal};
 use crate::var_int::VarInt;
 use crate::var_uint::VarUInt;
+use std::ops::ControlFlow;
 
 // The most bytes that a VarUInt or a VarInt may have.
 const MAX_ENCODED_SIZE_IN_BYTES: usize = 9;
@@ -80,58 +81,84 @@ fn read_groups(
     })
 }
 
-// Reads a VarUInt of three bytes at most: most lengths and field IDs have no more. Byte by byte: by a loop each item took longer (docs/SPEED.md).
-pub fn short_var_uint(s: &[u8], at: usize, end: usize) -> Option<VarUInt>
-    ensures { short_var_uint_read result ≡ short_var_uint_of at (var_uint s.now at end) }
+// Reads the first bytes of a VarUInt, three at most: it is all of them, or none of them is its last and it goes on with what they are worth from where they end.
+// Byte by byte: by a loop each item took longer (docs/SPEED.md).
+#[inline(always)]
+fn read_first_bytes(
+    s: &[u8],
+    at: usize,
+    end: usize,
+) -> Result<ControlFlow<VarUInt, VarUInt>, Refusal>
+    ensures { Begins s.now at end result }
 {
-    if s.len() < end || end <= at {
-        return None;
+    if s.len() < end {
+        return Err(OUTSIDE);
+    }
+    if end <= at {
+        if at == end {
+            return Ok(ControlFlow::Continue(VarUInt { value: 0, next: at }));
+        }
+        return Err(OUTSIDE);
     }
     let first = usize::from(s[at]);
     let after = at + 1;
     if 128 <= first {
-        return Some(VarUInt {
+        return Ok(ControlFlow::Break(VarUInt {
             value: first % 128,
             next: after,
-        });
+        }));
     }
     if end <= after {
-        return None;
+        return Ok(ControlFlow::Continue(VarUInt {
+            value: first,
+            next: after,
+        }));
     }
     let second = usize::from(s[after]);
     let past = after + 1;
     let two = first * 128 + second % 128;
     if 128 <= second {
-        return Some(VarUInt {
+        return Ok(ControlFlow::Break(VarUInt {
             value: two,
             next: past,
-        });
+        }));
     }
     if end <= past {
-        return None;
+        return Ok(ControlFlow::Continue(VarUInt {
+            value: two,
+            next: past,
+        }));
     }
     let third = usize::from(s[past]);
     let next = past + 1;
     let three = two * 128 + third % 128;
     if 128 <= third {
-        return Some(VarUInt { value: three, next });
+        return Ok(ControlFlow::Break(VarUInt { value: three, next }));
     }
-    None
+    Ok(ControlFlow::Continue(VarUInt { value: three, next }))
 }
 
-// Reads a VarUInt, a short one in place.
+// Reads a VarUInt of three bytes at most: most lengths and field IDs have no more.
+pub fn short_var_uint(s: &[u8], at: usize, end: usize) -> Option<VarUInt>
+    ensures { short_var_uint_read result ≡ short_var_uint_of at (var_uint s.now at end) }
+{
+    match read_first_bytes(s, at, end) {
+        Ok(ControlFlow::Break(number)) => Some(number),
+        Ok(ControlFlow::Continue(_)) | Err(_) => None,
+    }
+}
+
+// Reads a VarUInt, a short one in place; a longer one goes on behind its first bytes, which are not read again.
 #[inline(always)]
-#[tactic(auto, using(std::proofs::lemmas::Bool::Decides::nat_tests), unfolding(crate::specs::Answers::var_uint, crate::specs::Answers::var_number))]
 pub fn read_var_uint(s: &[u8], at: usize, end: usize) -> Result<VarUInt, Refusal>
     ensures { var_uint_read result ≡ var_uint s.now at end }
 {
-    if let Some(number) = short_var_uint(s, at, end) {
-        return Ok(number);
+    match read_first_bytes(s, at, end)? {
+        ControlFlow::Break(number) => Ok(number),
+        ControlFlow::Continue(begun) => {
+            read_groups(s, at, begun.next, end, begun.value, Reason::VarUIntCut)
+        }
     }
-    if outside(s, at, end) {
-        return Err(OUTSIDE);
-    }
-    read_groups(s, at, at, end, 0, Reason::VarUIntCut)
 }
 
 // Reads a VarInt.

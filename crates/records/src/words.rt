@@ -3,12 +3,12 @@
 // `as u64` of a `usize`: std has no `From` for it, and each is proved to lose nothing; of an enum it is the case's own number. The arm of a refusal stands in
 // each function: by `map_or_else` the proof did not close.
 ghost use Rattle.std.specs.Prelude.{◌≡◌, ◌+◌, ◌-◌, [], ◌∷◌};
-ghost use Rattle.numbers.specs.Outcome.{and_then, gives};
+ghost use Rattle.numbers.specs.Outcome.{and_then};
 ghost use Rattle.numbers.specs.Read.{outcome};
 ghost use Rattle.numbers.specs.Refusals.{number_of};
 ghost use Rattle.framing.specs.Read.{annotation_read, spans_of};
 ghost use Rattle.bodies.specs.Decimal.{decimal_read};
-ghost use Rattle.stepping.specs.Read.{places_of};
+ghost use Rattle.stepping.specs.Read.{item_read};
 ghost use Rattle.values.specs.Read.{body_read, scalar_read, dated_read};
 ghost use Rattle.records.specs.FirstWords.{entered_at};
 ghost use Rattle.records.specs.Read.{number_read};
@@ -97,18 +97,20 @@ pub fn end_words(position: usize) -> [u64; RECORD_WORDS]
     [RecordKind::End as u64, 0, position as u64, 0, 0, 0, 0, 0, 0]
 }
 
-// The words of what a step hands out.
-pub fn item_words(item: Item) -> [u64; RECORD_WORDS]
-    ensures { result ≡ words (gives (places_of item)) }
+// The words of a step's answer.
+pub fn item_words(item: Result<Item, Refusal>) -> [u64; RECORD_WORDS]
+    ensures { result ≡ words (item_read item) }
 {
     match item {
-        Item::End { position } => end_words(position),
-        Item::Marker {
-            start,
-            major,
-            minor,
-            end,
-        } => [
+        Ok(Item::End { position }) => end_words(position),
+        Ok(
+            Item::Marker {
+                start,
+                major,
+                minor,
+                end,
+            },
+        ) => [
             RecordKind::Marker as u64,
             0xE0,
             start as u64,
@@ -119,8 +121,9 @@ pub fn item_words(item: Item) -> [u64; RECORD_WORDS]
             0,
             0,
         ],
-        Item::Value(value) => value_words(RecordKind::Value, value.start, value, 0),
-        Item::Field { id, start, value } => value_words(RecordKind::Field, start, value, id),
+        Ok(Item::Value(value)) => value_words(RecordKind::Value, value.start, value, 0),
+        Ok(Item::Field { id, start, value }) => value_words(RecordKind::Field, start, value, id),
+        Err(refusal) => refused_words(refusal),
     }
 }
 
