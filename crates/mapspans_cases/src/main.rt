@@ -5,7 +5,7 @@ use std::io::{Eprint, Print};
 use std::rt::Files;
 use std::{env, fs, io};
 
-fn list(rt: &(impl Files + Print + Eprint + AllocGlobal), name: &str) -> io::Result<()> {
+fn list(rt: &(impl Files + Print + Eprint), name: &str) -> io::Result<()> {
     match fs::open(rt, name) {
         Ok(mut file) => {
             println!(rt; "{name}:")?;
