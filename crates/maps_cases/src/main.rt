@@ -17,5 +17,5 @@ use std::io;
 
 fn main(rt: HostRuntime) -> io::Result<()> {
     let alloc = rt.alloc();
-    comparing::compare_files(&rt, |question| calls::answer(alloc, question))
+    comparing::compare_files(&rt, |line| calls::answer(alloc, line))
 }

@@ -22,12 +22,12 @@ where
     let mut out = buffer(words)?;
     let limit = words.number_or(ANNOTATION_LIMIT);
     let returned = read(map, at.start, at.end, at.position, limit, &mut out);
-    left(words, returned, &out)
+    left(words, &returned, &out)
 }
 
 pub fn number(map: &[u8], words: &mut Words) -> Said {
     let at = Place::of(words);
-    let form = words.number();
+    let form = words.number() as u64;
     let size = words.number();
     lend(words, |out, _| {
         Ok(ion_map_number(map, at.start, at.end, at.position, form, size, out))
@@ -49,5 +49,5 @@ where
     let mut out = buffer(words)?;
     let Limits { limit, depth } = Limits::of(words);
     let returned = read(map, limit, depth, &mut out);
-    left(words, returned, &out)
+    left(words, &returned, &out)
 }

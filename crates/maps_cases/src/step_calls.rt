@@ -11,7 +11,7 @@ use walking::exports::ion_map_walked;
 
 pub fn step(map: &[u8], words: &mut Words) -> Said {
     let at = Place::of(words);
-    let kind = words.number();
+    let kind = words.number() as u64;
     lend(words, |out, words| {
         let limit = words.number_or(ANNOTATION_LIMIT);
         Ok(ion_map_step(map, at.start, at.end, at.position, kind, limit, out))
@@ -21,7 +21,7 @@ pub fn step(map: &[u8], words: &mut Words) -> Said {
 // Many steps return a count too.
 pub fn steps(map: &[u8], words: &mut Words) -> Said {
     let at = Place::of(words);
-    let kind = words.number();
+    let kind = words.number() as u64;
     let mut out = buffer(words)?;
     let limit = words.number_or(ANNOTATION_LIMIT);
     let mut count = UNTOUCHED;
@@ -35,12 +35,12 @@ pub fn steps(map: &[u8], words: &mut Words) -> Said {
         &mut out,
         &mut count,
     );
-    format!(in words.alloc; "{returned} {count}{}", Left(&out))
+    Ok(format!(in words.alloc; "{returned} {count}{}", Left(&out))?)
 }
 
 pub fn step_bounded(map: &[u8], words: &mut Words) -> Said {
     let at = Place::of(words);
-    let kind = words.number();
+    let kind = words.number() as u64;
     let most = words.number();
     lend(words, |out, words| {
         let limit = words.number_or(ANNOTATION_LIMIT);
@@ -49,16 +49,15 @@ pub fn step_bounded(map: &[u8], words: &mut Words) -> Said {
 }
 
 pub fn walked(map: &[u8], words: &mut Words) -> Said {
-    let most = words.number();
+    let most = words.number() as u64;
     let Limits { limit, depth } = Limits::of(words);
-    format!(in words.alloc; "{}", ion_map_walked(map, most, limit, depth))
+    let returned = ion_map_walked(map, most, limit, depth);
+    Ok(format!(in words.alloc; "{returned}")?)
 }
 
 pub fn ids(map: &[u8], words: &mut Words) -> Said {
     let at = Place::of(words);
     let limit = words.number_or(ANNOTATION_LIMIT);
-    format!(in words.alloc;
-        "{}",
-        ion_map_ids(map, at.start, at.end, at.position, limit)
-    )
+    let returned = ion_map_ids(map, at.start, at.end, at.position, limit);
+    Ok(format!(in words.alloc; "{returned}")?)
 }

@@ -1,6 +1,8 @@
 // Bytes as words: two digits for each byte, and `-` where there is none.
+ghost use Rattle.std.specs.Prelude.{◌<◌};
+
 use std::alloc::{AllocError, Global};
-use std::{fmt, str};
+use std::fmt;
 
 // Bytes to be written.
 #[derive(Clone, Copy, Debug)]
@@ -18,14 +20,28 @@ impl fmt::Display for Hexadecimal<'_> {
     }
 }
 
-fn byte_of(digits: &[u8]) -> Option<u8> {
-    u8::from_str_radix(str::from_utf8(digits).ok()?, 16).ok()
+// The worth of a digit, in upper case. Any other byte has one too.
+fn digit(glyph: u8) -> u8
+    ensures { result < 16 }
+{
+    if glyph < b'A' {
+        glyph % 16
+    } else {
+        (glyph - b'A') % 6 + 10
+    }
 }
 
-// The bytes that a word spells. What is no two digits spells none.
-pub fn decode(alloc: Global, word: &str) -> Result<Vec<u8>, AllocError> {
-    word.as_bytes()
-        .chunks_exact(2)
+fn byte_of(digits: &[u8]) -> Option<u8> {
+    match digits {
+        [high, low] => Some(digit(*high) * 16 + digit(*low)),
+        _ => None,
+    }
+}
+
+// The bytes that a word spells, and no more of them than `most`.
+pub fn decode(alloc: Global, word: &[u8], most: usize) -> Result<Vec<u8>, AllocError> {
+    word.chunks_exact(2)
+        .take(most)
         .filter_map(byte_of)
         .collect(alloc)
 }

@@ -5,9 +5,10 @@ use crate::{
     step_questions, timestamp_questions, walk_questions,
 };
 use numbers::refusal::Refusal;
+use questions::comparing::MOST_OF_ANSWER;
 use questions::words::Words;
 use std::alloc::{AllocError, Global};
-use std::fmt;
+use std::{fmt, str};
 use stepping::cursor::Cursor;
 
 // The part at..end of a question's bytes.
@@ -54,8 +55,11 @@ pub fn sign(negative: bool) -> &'static str {
     if negative { "negative" } else { "positive" }
 }
 
-// Puts an item on a line, behind the items that are there.
+// Puts an item on a line, behind the items that are there. A line that is as long as is compared takes no more.
 pub fn join<D: fmt::Display>(line: &mut String, item: &D) -> Result<(), AllocError> {
+    if MOST_OF_ANSWER <= line.len() {
+        return Ok(());
+    }
     if !line.is_empty() {
         line.push_str(" ; ")?;
     }
@@ -99,12 +103,23 @@ fn answer_asked(asked: Asked, words: &mut Words) -> Answer {
     }
 }
 
-pub fn answer(alloc: Global, question: &str) -> Result<String, AllocError> {
-    let words = &mut Words::of(alloc, question);
-    let Ok(asked) = words.word().unwrap_or("").parse() else {
-        return String::from_str(alloc, "no such question");
+// What a word that is no text asks is no question.
+fn asked(words: &mut Words) -> Option<Asked> {
+    str::from_utf8(words.word()).ok()?.parse().ok()
+}
+
+fn no_such_question(alloc: Global) -> Result<String, AllocError> {
+    String::from_str(alloc, "no such question")
+}
+
+// An answer that says nothing, as that of no steps, is none.
+pub fn answer(alloc: Global, line: &[u8]) -> Result<String, AllocError> {
+    let words = &mut Words::of(alloc, line);
+    let Some(asked) = asked(words) else {
+        return no_such_question(alloc);
     };
     match answer_asked(asked, words) {
+        Ok(said) if said.is_empty() => no_such_question(alloc),
         Ok(said) => Ok(said),
         Err(Failure::Refusal(refusal)) => format!(in alloc; "{}", Refused(refusal)),
         Err(Failure::OutOfMemory(error)) => Err(error),

@@ -83,7 +83,7 @@ impl fmt::Display for Said {
 
 // `annotations BYTES AT END COUNT`: what so many annotation steps say, each from where the one before left. The end and a refusal leave the cursor.
 pub fn annotations(part: Part, words: &mut Words) -> Answer {
-    let count: usize = words.number();
+    let count = words.number();
     let mut line = String::new(words.alloc);
     let mut from = part.at;
     for _ in 0..count {

@@ -18,5 +18,5 @@ use std::io;
 
 fn main(rt: HostRuntime) -> io::Result<()> {
     let alloc = rt.alloc();
-    comparing::compare_files(&rt, |question| answering::answer(alloc, question))
+    comparing::compare_files(&rt, |line| answering::answer(alloc, line))
 }

@@ -51,7 +51,7 @@ where
     F: Fn(Cursor, &[u8], usize) -> Step + Drop,
     requires { F.IsAlwaysCallable next }
 {
-    let count: usize = words.number();
+    let count = words.number();
     let limit = words.number_or(ANNOTATION_LIMIT);
     let mut line = String::new(words.alloc);
     let mut cursor = Cursor {
@@ -73,7 +73,7 @@ where
     F: Fn(Cursor, &[u8], usize) -> Step + Drop,
     requires { F.IsAlwaysCallable next }
 {
-    let count: usize = words.number();
+    let count = words.number();
     let limit = words.number_or(ANNOTATION_LIMIT);
     let mut cursor = Cursor {
         at: part.at,
