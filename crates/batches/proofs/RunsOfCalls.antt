@@ -3,6 +3,7 @@
 use Prim.Native.Nat.{ℕ, zero, suc, ◌≤◌, ◌<◌}
 use native.Mathlib.Omega.{arith}
 use mathlib.Core.Path.{◌≡◌, refl, ◌∙◌, sym, ap, subst}
+use mathlib.Core.Bool.{true, false}
 use mathlib.Core.List.{List, [], ◌∷◌, map}
 use lib.ListN.{length}
 use Rattle.numbers.specs.Outcome.{Outcome, refuses, outside_of}
@@ -18,7 +19,7 @@ use Rattle.stepping.proofs.Places.{a_marker, a_value, a_field, in_ends}
 use Rattle.stepping.proofs.Moves.{Moves, ends, hands, stops, moves}
 use Rattle.framing.specs.Limits.{out_of_range}
 use Rattle.batches.specs.Steps.{exported_run}
-use Rattle.maps.specs.Inside.{part_rules}
+use Rattle.maps.specs.Inside.{inside_of, part_rules}
 use Rattle.batches.specs.Private.Run.{step_run}
 use Rattle.batches.specs.Theorems.{answer_of, RunsOfCalls}
 use Rattle.maps.proofs.Within.{refused_unranged, step_is, refused_outside, not_given}
@@ -105,3 +106,10 @@ module _ (limit : ℕ) (s : List ℕ) (start end kind : ℕ) (m : end ≤ length
 pub run_refused : (limit : ℕ) (s : List ℕ) (start end at kind : ℕ) {n m number position : ℕ} → n ≡ suc m → part_rules limit s start end at kind ≡ refuses number position → exported_run limit n s start end at kind ≡ refuses number position ∷ []
 unfolding exported_run
 run_refused limit s start end at kind q e = rw (q, not_given limit s start end at kind e)
+
+-- with a limit that is none it is refused with 68, and outside with 50
+pub run_unranged : (limit : ℕ) (s : List ℕ) (start end at kind : ℕ) {n m : ℕ} → n ≡ suc m → out_of_range limit ≡ true → exported_run limit n s start end at kind ≡ refuses 68 0 ∷ []
+run_unranged limit s start end at kind q g = run_refused limit s start end at kind q (rw g)
+
+pub run_outside : (limit : ℕ) (s : List ℕ) (start end at kind : ℕ) {n m : ℕ} → n ≡ suc m → out_of_range limit ≡ false → inside_of s start end at kind ≡ false → exported_run limit n s start end at kind ≡ refuses 50 0 ∷ []
+run_outside limit s start end at kind q g h = run_refused limit s start end at kind q (rw (g, h))

@@ -3,7 +3,7 @@
 use Prim.Native.Nat.{ℕ, zero, suc, ◌+◌, ◌-◌, ◌*◌, ◌^◌, ◌≤◌, ◌<◌}
 use native.Mathlib.Omega.{arith}
 use native.Mathlib.Numerals.{add-one}
-use native.Mathlib.Nat.{pow-suc, mul_assoc, add-mul, pow-le-pow_right, lt_of_lt_of_le, mul-le-mul_left}
+use native.Mathlib.Nat.{pow-suc, mul_assoc, add-mul, pow-le-pow_right, lt_of_lt_of_le, mul-le-mul_left, mul-le-mul_right}
 use mathlib.Core.Path.{◌≡◌, refl, ◌∙◌, sym, ap}
 use mathlib.Core.List.{List, [], ◌∷◌, ◌++◌}
 use lib.ListN.{length, get_or, take, drop, length-append, length-drop}
@@ -94,3 +94,22 @@ digits_large d bs i h l =
 pub uint_none : uint_of [] ≡ 0
 unfolding uint_of of_digits
 uint_none = refl
+
+-- v, with the bytes after it
+unfoldable pub before : ℕ → List ℕ → ℕ
+before v bs = v * 256 ^ length bs + uint_of bs
+
+-- the bytes of a number behind its first digit
+pub before_digits : (v : ℕ) (bs : List ℕ) → of_digits 256 (v ∷ bs) ≡ before v bs
+unfolding before uint_of of_digits
+before_digits v bs = refl
+
+-- from 2 ^ 56 up, one byte more makes 2 ^ 64
+pub before_large : (s : List ℕ) (v at end : ℕ) → at < end → end ≤ length s → 256 ^ 7 ≤ v → 256 ^ 8 ≤ before v (part s at end)
+unfolding before
+before_large s v at end h k l =
+    let n : ℕ = length (part s at end) in
+    let m : 1 ≤ n = omega (arith, part_length s at end k) in
+    let p : 256 ^ 1 ≤ 256 ^ n = pow-le-pow_right {n = 256} (omega arith) {i = 1} {j = n} m in
+    let q : 256 ^ 7 * 256 ^ n ≤ v * 256 ^ n = mul-le-mul_right (256 ^ n) l in
+    omega arith

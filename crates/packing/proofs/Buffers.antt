@@ -51,7 +51,7 @@ module _ (limit deepest : ℕ) (s : List ℕ) where
   unfolding pack_of
   has_room n room e h = sym (ap (λ (o : Outcome ℕ). and_then o (fitted room)) (sym e) ∙ rw (le-ltb room n h))
 
-  left_alone : (e : Refusal) (old : List ℕ) → refusal_read e ≡ pack_of limit deepest s (length old) → old ≡ buffer_of limit deepest s old
+  pub left_alone : (e : Refusal) (old : List ℕ) → refusal_read e ≡ pack_of limit deepest s (length old) → old ≡ buffer_of limit deepest s old
   unfolding buffer_of
   left_alone e old h = ap (leaving (packed limit s) old) h
 

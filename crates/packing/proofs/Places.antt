@@ -66,7 +66,7 @@ module _ (limit : ℕ) (s : List ℕ) (v : Spans) where
   scalar_body c = rw c
 
 module _ (limit : ℕ) (s : List ℕ) (v : Spans) (h : v.end ≤ length s) where
-  scalar_size : is_container v ≡ false → length (body_bytes limit s v) ≡ v.end - v.body
+  pub scalar_size : is_container v ≡ false → length (body_bytes limit s v) ≡ v.end - v.body
   scalar_size c = ap length (scalar_body limit s v c) ∙ part_length s v.body v.end h
 
   body_short : length (body_bytes limit s v) ≤ v.end - v.body

@@ -66,7 +66,7 @@ module _ (limit : ℕ) (s : List ℕ) where
       (λ e p q. fuel k k' rules hi e (omega arith) (omega arith))
       (answer_at limit rules s at hi) (answer_lies limit rules s at hi)
 
-  unrolled : (rules : Rules) (hi at : ℕ) → tree_at limit s rules hi at ≡ tree_on s (tree_at limit s) (tree_at limit s rules hi) (answer_at limit rules s at hi)
+  pub unrolled : (rules : Rules) (hi at : ℕ) → tree_at limit s rules hi at ≡ tree_on s (tree_at limit s) (tree_at limit s rules hi) (answer_at limit rules s at hi)
   unfolding tree_at tree_in
   unrolled rules hi at =
       fuel (hi - at) (suc (hi - at)) rules hi at (omega arith) (omega arith)
@@ -76,7 +76,7 @@ module _ (limit : ℕ) (s : List ℕ) where
       (answer_at limit rules s at hi) (answer_lies limit rules s at hi)
 
   -- in bytes: a value, and what comes behind it
-  node_bytes : (from : ℕ) (v : Spans) (rest : Tree) → bytes_of (node_of s (part s from v.start) v (tree_at limit s (body_rules v) v.end v.body) rest) ≡ value_bytes limit s from v ++ bytes_of rest
+  pub node_bytes : (from : ℕ) (v : Spans) (rest : Tree) → bytes_of (node_of s (part s from v.start) v (tree_at limit s (body_rules v) v.end v.body) rest) ≡ value_bytes limit s from v ++ bytes_of rest
   unfolding node_of bytes_of value_bytes body_bytes bytes_at
   node_bytes from v rest = by_case (is_container v) (λ c. rw c) (λ c. rw c)
 

@@ -12,7 +12,7 @@ use Rattle.records.specs.Words.{annotation_words, body_words, reading_words, num
 use Rattle.records.proofs.Numbers.{annotation_number, entered_number, reading_number, number_number, returned-by}
 use Rattle.readings.specs.Exported.{exported_body}
 
-body_number : (limit : ℕ) (s : List ℕ) (start end at : ℕ) → number_in (body_words (exported_body limit s start end at)) ≡ number_of (step_in limit s start end at)
+pub body_number : (limit : ℕ) (s : List ℕ) (start end at : ℕ) → number_in (body_words (exported_body limit s start end at)) ≡ number_of (step_in limit s start end at)
 unfolding exported_body step_in
 body_number limit s start end at = entered_number (value_in limit s start end at)
 

@@ -36,15 +36,15 @@ from_item at (refuses n p) = refl
 
 module _ (limit : ℕ) (s : List ℕ) (at end : ℕ) where
   -- the readings of a value, outside the slice, at the part's end and at a pad
-  value_outside : outside_of s at end ≡ true → read_value limit s at end ≡ refuses 50 0
+  pub value_outside : outside_of s at end ≡ true → read_value limit s at end ≡ refuses 50 0
   unfolding read_value peeked_descriptor
   value_outside e = rw e
 
-  value_at_end : outside_of s at end ≡ false → at ≡ end → read_value limit s at end ≡ refuses 1 end
+  pub value_at_end : outside_of s at end ≡ false → at ≡ end → read_value limit s at end ≡ refuses 1 end
   unfolding read_value peeked_descriptor
   value_at_end e q = rw (e, eq-eqb at end q)
 
-  value_at_pad : outside_of s at end ≡ false → (at ≡ end → ⊥) → get_or s at 0 < 15 → read_value limit s at end ≡ refuses 22 at
+  pub value_at_pad : outside_of s at end ≡ false → (at ≡ end → ⊥) → get_or s at 0 < 15 → read_value limit s at end ≡ refuses 22 at
   unfolding read_value peeked_descriptor value_at value_without_annotations descriptor_of
   value_at_pad e n h = let p = pad_byte (get_or s at 0) h in rw (e, ne_eqb at end n, p.wrapper, p.value)
 
@@ -62,7 +62,7 @@ module _ (limit : ℕ) (s : List ℕ) (at end : ℕ) where
       framed_value d (ap (λ (x : TypeDescriptor). is_pad x.kind) b.is ∙ no_pad_byte (get_or s at 0) h))
       ∙ sym (then_then (peeked_descriptor s at end) (frame_at limit s at end) as_tile)
 
-  value_stepped : out_of_range limit ≡ false → at < end → end ≤ length s → 15 ≤ get_or s at 0 → value_from at (step_of limit Sequence s (record { at = at; end = end })).answer ≡ read_value limit s at end
+  pub value_stepped : out_of_range limit ≡ false → at < end → end ≤ length s → 15 ≤ get_or s at 0 → value_from at (step_of limit Sequence s (record { at = at; end = end })).answer ≡ read_value limit s at end
   value_stepped g l m h =
       let o : Outcome Item = and_then (read_value limit s at end) as_item in
       ap (value_from at) (sym (answer_is limit Sequence s at end o (stop o) g (omega arith) m (answered limit Sequence s at end o l (handed_value h)) refl))

@@ -35,7 +35,7 @@ pub record Counted (limits : Limits) (most count total : ℕ) (s : List ℕ) (w 
 
 module _ {limits : Limits} {most count total : ℕ} {s : List ℕ} {w : Walk} (i : Counted limits most count total s w) where
   -- the count ends where the answer is the last
-  stopped : is_last (visit_of limits.bytes limits.depth s w).answer ≡ true → count ≡ total
+  pub stopped : is_last (visit_of limits.bytes limits.depth s w).answer ≡ true → count ≡ total
   stopped h = omega (arith, i.sum, last_called limits.bytes limits.depth s w h (most - count))
 
   pub all_counted : most ≤ count → count ≡ total
@@ -50,14 +50,14 @@ module _ {limits : Limits} {most count total : ℕ} {s : List ℕ} {w : Walk} (i
   barred_counted h = stopped (barred_last limits.bytes limits.depth s w h)
 
   module _ (d : w.depth ≤ limits.depth) (b : w.deep ≡ false) where
-    refused : {number position : ℕ} → step_here limits.bytes s w ≡ refuses number position → count ≡ total
+    pub refused : {number position : ℕ} → step_here limits.bytes s w ≡ refuses number position → count ≡ total
     refused h = stopped (refused_here limits.bytes limits.depth s w limits.in_range d b h)
 
-    ended : {p : ℕ} → w.depth ≡ 0 → step_here limits.bytes s w ≡ gives (finish p) → count ≡ total
+    pub ended : {p : ℕ} → w.depth ≡ 0 → step_here limits.bytes s w ≡ gives (finish p) → count ≡ total
     ended z h = stopped (end_here limits.bytes limits.depth s w limits.in_range d b z h)
 
     -- at a body's end the place above has as many items left
-    rose : {q : ℕ} (x : Walk) → outside_of s w.at (end_at w w.depth) ≡ false → 1 ≤ w.depth → step_here limits.bytes s w ≡ gives (finish q) → x ≡ moved_to w (w.depth - 1) (end_at w w.depth) false → Counted limits most count total s x
+    pub rose : {q : ℕ} (x : Walk) → outside_of s w.at (end_at w w.depth) ≡ false → 1 ≤ w.depth → step_here limits.bytes s w ≡ gives (finish q) → x ≡ moved_to w (w.depth - 1) (end_at w w.depth) false → Counted limits most count total s x
     rose x o n e h =
         let v = above_here limits.bytes limits.depth s w limits.in_range d b n (inside_order s w.at (end_at w w.depth) o) (inside_end s w.at (end_at w w.depth) o) e in
         let m = same_called limits.bytes limits.depth s w (w.depth - 1) (end_at w w.depth) false v (most - count) in

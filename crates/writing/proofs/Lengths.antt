@@ -9,13 +9,15 @@ use mathlib.Core.List.{List, ◌++◌}
 use lib.ListN.{length, drop}
 use lib.Seq.{sets, sets-eq}
 use lib.Dec.{ltb}
+use Rattle.numbers.specs.Outcome.{gives, refuses}
 use Rattle.numbers.proofs.Outcomes.{by_case}
+use Rattle.checking.specs.Reading.{done}
 use Rattle.encoding.specs.Fields.{var_uint_size, var_uint_bytes}
 use Rattle.encoding.specs.Heads.{head_bytes, head_size, typed_bytes, wrapped_bytes, wrapper_bytes}
 use Rattle.encoding.proofs.VarUInts.{var-uint-sized, var_uint_past, bytes_size}
 use Rattle.encoding.proofs.Heads.{head_length, head_few, typed_length, wrapped_length, wrapper_length}
 use Rattle.encoding.proofs.Stores.{sets_more}
-use Rattle.writing.specs.Answers.{past_nine}
+use Rattle.writing.specs.Answers.{past_nine, fitted}
 
 pub not_past : (n : ℕ) → past_nine n ≡ false → n < 2 ^ 63
 unfolding past_nine
@@ -30,6 +32,13 @@ past n h = lt-ltb 9 (var_uint_size n) (var_uint_past n h)
 pub told : (n : ℕ) → n < 2 ^ 63 → past_nine n ≡ false
 unfolding past_nine
 told n h = le-ltb 9 (var_uint_size n) (var-uint-sized n h).few
+
+-- 70 last
+pub too_short : (room size size' : ℕ) → size ≡ size' → room < size → refuses 70 size ≡ fitted room size' done
+too_short room size size' e h = rw (← e, lt-ltb room size h)
+
+pub fits : (room size size' : ℕ) → size ≡ size' → size ≤ room → gives size ≡ fitted room size' done
+fits room size size' e h = rw (← e, le-ltb room size h)
 
 -- what is stored at the start
 pub stored : (bytes old : List ℕ) (n : ℕ) → n ≡ length bytes → n ≤ length old → sets old 0 bytes ≡ bytes ++ drop n old
