@@ -151,7 +151,10 @@ impl MapWriter {
         }
         let mut inner = MapWriter::by(self.limits);
         value(&mut inner)?;
-        let Limits { annotations: most, depth } = self.limits;
+        let Limits {
+            annotations: most,
+            depth,
+        } = self.limits;
         let room = 2 * HEADER + annotations.len() + inner.bytes.len();
         self.put(room, |to, record| {
             raw_write::wrapper(&annotations, &inner.bytes, most, depth, to, record)
@@ -172,11 +175,7 @@ impl MapWriter {
     }
 
     /// Writes behind what is there, with room for so many bytes.
-    fn put(
-        &mut self,
-        room: usize,
-        write: impl FnOnce(&mut [u8], &mut [u8]) -> u64,
-    ) -> Result<(), Refusal> {
+    fn put(&mut self, room: usize, write: impl FnOnce(&mut [u8], &mut [u8]) -> u64) -> Result<(), Refusal> {
         let start = self.bytes.len();
         self.bytes.resize(start + room, 0);
         let mut record = [0; crate::raw::RECORD_SIZE];

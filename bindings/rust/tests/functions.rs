@@ -2,8 +2,8 @@
 
 use ion_map::{
     annotation, annotations, decimal, ids_begun, int, items, items_bounded, raw, scalar, step, step_bounded, step_in,
-    timestamp, var_int, var_uint, walk, walked, Body, Bounded, Item, Limits, Part, PartKind, Precision, Refusal, Scalar,
-    Timestamp, TimestampOr, Type,
+    timestamp, var_int, var_uint, walk, walked, Body, Bounded, Item, Limits, Part, PartKind, Precision, Refusal,
+    Scalar, Timestamp, TimestampOr, Type,
 };
 use std::error::Error;
 
@@ -359,6 +359,7 @@ fn a_decimal_by_its_numbers() {
     );
 }
 
+#[cfg(feature = "alloc")]
 #[test]
 fn decimals() {
     let text = |body: &[u8]| decimal(body, 0..body.len()).map(|decimal| decimal.to_string());
@@ -405,6 +406,7 @@ fn decimals_as_numbers() {
 }
 
 /// A decimal's bytes are the map's own, its positions are counted from the map's start, and the bytes around it play no part.
+#[cfg(feature = "alloc")]
 #[test]
 fn decimals_in_a_map() {
     let map = [0x11, 0x54, 0xC1, 0x83, 0x02, 0x01, 0x80];
@@ -530,6 +532,7 @@ fn timestamps() {
     assert_eq!(other(&[0x12]), Err(refusal(33, 0)));
 }
 
+#[cfg(feature = "alloc")]
 #[test]
 fn timestamps_as_text() {
     let text = |map: &[u8]| stamp(map).map(|timestamp| timestamp.to_rfc3339());

@@ -1,5 +1,7 @@
 //! What is written and what is refused, as the change request has it: bytes, numbers and positions that were derived from it by hand.
 
+#![cfg(feature = "alloc")]
+
 use ion_map::{check, raw, raw_write, MapWriter, Refusal, Scalar, Thing};
 
 type Answer = Result<Vec<u8>, (u64, u64)>;
@@ -69,7 +71,9 @@ fn wrapper(annotations: &[u8], value: &[u8]) -> Answer {
 
 #[test]
 fn nulls_and_bools() {
-    let bytes = [0x0F, 0x1F, 0x2F, 0x2F, 0x4F, 0x5F, 0x6F, 0x7F, 0x8F, 0x9F, 0xAF, 0xBF, 0xCF, 0xDF];
+    let bytes = [
+        0x0F, 0x1F, 0x2F, 0x2F, 0x4F, 0x5F, 0x6F, 0x7F, 0x8F, 0x9F, 0xAF, 0xBF, 0xCF, 0xDF,
+    ];
     for (code, byte) in bytes.into_iter().enumerate() {
         assert_eq!(null(code), Ok(vec![byte]));
     }
@@ -93,7 +97,10 @@ fn numbers() {
 
     assert_eq!(float(0), Ok(vec![0x40]));
     assert_eq!(float(1 << 63), Ok(vec![0x48, 0x80, 0, 0, 0, 0, 0, 0, 0]));
-    assert_eq!(float(0x7FF0_0000_0000_0001), Ok(vec![0x48, 0x7F, 0xF0, 0, 0, 0, 0, 0, 1]));
+    assert_eq!(
+        float(0x7FF0_0000_0000_0001),
+        Ok(vec![0x48, 0x7F, 0xF0, 0, 0, 0, 0, 0, 1])
+    );
     assert_eq!(symbol(0), Ok(vec![0x70]));
     assert_eq!(symbol(256), Ok(vec![0x72, 1, 0]));
     assert_eq!(symbol(u64::MAX), Ok([vec![0x78], vec![0xFF; 8]].concat()));
@@ -159,7 +166,10 @@ fn wrappers() {
     assert_eq!(wrapper(&[0x84; 256], &[0x20]), Err((26, 0)));
     assert_eq!(wrapper(&[0x84], &[0x81, 0xFF]), Err((36, 0)));
     assert_eq!(wrapper(&[0x84], &[0xB2, 0x81, 0xFF]), Err((36, 1)));
-    assert_eq!(written(|to, out| raw_write::wrapper(&[0x84], &[0x20], 254, 32, to, out)), Err((68, 0)));
+    assert_eq!(
+        written(|to, out| raw_write::wrapper(&[0x84], &[0x20], 254, 32, to, out)),
+        Err((68, 0))
+    );
 }
 
 #[test]
