@@ -11,6 +11,8 @@ mod answer;
 mod bounded;
 mod check;
 mod decimal;
+#[cfg(feature = "alloc")]
+mod digits;
 mod item;
 mod limits;
 mod number;
