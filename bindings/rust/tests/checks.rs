@@ -25,6 +25,17 @@ fn counts() {
     assert_eq!(counts.markers + counts.values(), walked(&map, u64::MAX));
 }
 
+/// Counts that no map has: their sum is the largest number, and no panic.
+#[test]
+fn counts_of_any_numbers() {
+    let counts = Counts {
+        ints: u64::MAX,
+        structs: 1,
+        ..Counts::default()
+    };
+    assert_eq!(counts.values(), u64::MAX);
+}
+
 #[test]
 fn the_first_refusal() {
     let shallow = Limits {
