@@ -1,3 +1,5 @@
+// All names of a map in one walk.
+
 use ion_map::{annotations, items, walk, Item, Part, PartKind, Refusal, Scalar, Symbols, Type, Value};
 
 /// Hands out each ID that stands in a map, where the value stands, and the ID's text.

@@ -47,4 +47,4 @@ pub use symbols::{symbol_text, Symbols, SYSTEM_TEXT};
 pub use timestamp::{timestamp, Precision, Timestamp, TimestampOr};
 pub use walk::{walk, walked, Walk};
 #[cfg(feature = "alloc")]
-pub use writing::{MapWriter, Thing};
+pub use writing::{MapWriter, SequenceWriter, StructWriter, Thing, ValueWriter};
