@@ -83,6 +83,8 @@ fn product(a: &[u32], b: &[u32]) -> Vec<u32> {
 }
 
 fn each_by_each(a: &[u32], b: &[u32]) -> Vec<u32> {
+    #[cfg(test)]
+    tests::count(a.len() * b.len());
     let mut sums = vec![0; a.len() + b.len()];
     for (place, group) in a.iter().enumerate() {
         for (sum, other) in sums.iter_mut().skip(place).zip(b) {
@@ -141,4 +143,52 @@ fn without_zeros(mut groups: Vec<u32>) -> Vec<u32> {
         groups.pop();
     }
     groups
+}
+
+#[cfg(test)]
+mod tests {
+    extern crate std;
+
+    use super::*;
+    use std::cell::Cell;
+
+    std::thread_local! {
+        static PRODUCTS: Cell<usize> = const { Cell::new(0) };
+    }
+
+    /// Counts products of two groups.
+    pub(super) fn count(products: usize) {
+        PRODUCTS.set(PRODUCTS.get() + products);
+    }
+
+    /// How many products of two groups the digits of so many bytes take.
+    fn products(length: usize) -> usize {
+        PRODUCTS.set(0);
+        groups(0, &vec![0xA5; length]);
+        PRODUCTS.get()
+    }
+
+    /// Twice the length takes thrice the products and some more, and not four times.
+    #[test]
+    fn below_the_square() {
+        let counts: Vec<_> = (6..11).map(|doublings| products(BLOCK << doublings)).collect();
+        for pair in counts.windows(2) {
+            assert!(pair[1] * 10 < pair[0] * 33, "{counts:?}");
+        }
+    }
+
+    /// The largest groups there are, few and many: (10^n - 1)^2 is n - 1 nines, 8, n - 1 zeros, 1.
+    #[test]
+    fn nines() {
+        for length in [1, 2, SUMS - 1, SUMS, SUMS + 1, FEW, FEW + 1, 2 * FEW, 2 * FEW + 1, 1000] {
+            let largest = GROUP as u32 - 1;
+            let mut square = vec![0; length];
+            square[0] = 1;
+            square.push(largest - 1);
+            square.resize(2 * length, largest);
+            let nines = vec![largest; length];
+            assert_eq!(product(&nines, &nines), square);
+            assert_eq!(each_by_each(&nines, &nines), square);
+        }
+    }
 }

@@ -368,7 +368,6 @@ impl Buffer {
         room: usize,
         write: impl Fn(&[u8], &mut [u8], &mut [u8]) -> u64,
     ) -> Result<usize, Refusal> {
-        self.bytes.truncate(span.end);
         reserve(&mut self.bytes, room).map_err(|number| Refusal { number, position: 0 })?;
         self.bytes.resize(span.end + room, 0);
         let (written, to) = self.bytes.split_at_mut(span.end);
