@@ -39,7 +39,7 @@ static int print_refused(uint64_t number, uint64_t position)
 
 static int refused(const uint8_t *record)
 {
-    return print_refused(ion_map_word(record, ION_MAP_REFUSED_NUMBER), ion_map_word(record, ION_MAP_REFUSED_POSITION));
+    return print_refused(ion_map_word(record, ION_MAP_AT_REFUSED_NUMBER), ion_map_word(record, ION_MAP_AT_REFUSED_POSITION));
 }
 
 static int print_name(const struct list *list, uint64_t position, const char *what, uint64_t id)
@@ -52,7 +52,7 @@ static int print_name(const struct list *list, uint64_t position, const char *wh
         return refused(record);
     }
     printf("%" PRIu64 " %s %" PRIu64, position, what, id);
-    switch (ion_map_word(record, ION_MAP_TEXT_WHERE)) {
+    switch (ion_map_word(record, ION_MAP_AT_TEXT_WHERE)) {
     case ION_MAP_TEXT_UNKNOWN:
         printf(" unknown\n");
         return 1;
@@ -62,8 +62,8 @@ static int print_name(const struct list *list, uint64_t position, const char *wh
     default:
         break;
     }
-    printf(" \"%.*s\"\n", (int)ion_map_word(record, ION_MAP_WORD_LENGTH),
-           (const char *)from + ion_map_word(record, ION_MAP_TEXT_START));
+    printf(" \"%.*s\"\n", (int)ion_map_word(record, ION_MAP_AT_LENGTH),
+           (const char *)from + ion_map_word(record, ION_MAP_AT_TEXT_START));
     return 1;
 }
 
@@ -76,10 +76,10 @@ static int print_annotations(const struct list *list, size_t start, size_t end)
         if (ion_map_annotation(map, length, start, end, position, record, sizeof record) != 0) {
             return refused(record);
         }
-        if (!print_name(list, position, "annotation", ion_map_word(record, ION_MAP_ANNOTATION_ID))) {
+        if (!print_name(list, position, "annotation", ion_map_word(record, ION_MAP_AT_ANNOTATION_ID))) {
             return 0;
         }
-        position = (size_t)ion_map_word(record, ION_MAP_ANNOTATION_END);
+        position = (size_t)ion_map_word(record, ION_MAP_AT_ANNOTATION_END);
     }
     return 1;
 }
@@ -98,12 +98,12 @@ static int print_part(const struct list *outer, size_t start, size_t end, uint64
         if (ion_map_step(map, length, start, end, position, kind, LIMIT, value, sizeof value) != 0) {
             return refused(value);
         }
-        if (ion_map_word(value, ION_MAP_WORD_KIND) == ION_MAP_KIND_END) {
+        if (ion_map_word(value, ION_MAP_AT_KIND) == ION_MAP_KIND_END) {
             return 1;
         }
-        item = ion_map_word(value, ION_MAP_VALUE_START);
-        position = (size_t)ion_map_word(value, ION_MAP_VALUE_END);
-        if (ion_map_word(value, ION_MAP_WORD_KIND) == ION_MAP_KIND_MARKER) {
+        item = ion_map_word(value, ION_MAP_AT_VALUE_START);
+        position = (size_t)ion_map_word(value, ION_MAP_AT_VALUE_END);
+        if (ion_map_word(value, ION_MAP_AT_KIND) == ION_MAP_KIND_MARKER) {
             continue;
         }
         if (depth > 0) {
@@ -113,28 +113,28 @@ static int print_part(const struct list *outer, size_t start, size_t end, uint64
                                 record, sizeof record) != 0) {
                 return refused(record);
             }
-            list.start = (size_t)ion_map_word(record, ION_MAP_SYMBOLS_START);
-            list.end = (size_t)ion_map_word(record, ION_MAP_SYMBOLS_END);
+            list.start = (size_t)ion_map_word(record, ION_MAP_AT_SYMBOLS_START);
+            list.end = (size_t)ion_map_word(record, ION_MAP_AT_SYMBOLS_END);
         }
-        if (ion_map_word(value, ION_MAP_WORD_KIND) == ION_MAP_KIND_FIELD
-            && !print_name(&list, item, "field", ion_map_word(value, ION_MAP_VALUE_FIELD_ID))) {
+        if (ion_map_word(value, ION_MAP_AT_KIND) == ION_MAP_KIND_FIELD
+            && !print_name(&list, item, "field", ion_map_word(value, ION_MAP_AT_VALUE_FIELD_ID))) {
             return 0;
         }
-        descriptor = ion_map_word(value, ION_MAP_VALUE_DESCRIPTOR);
-        if (!print_annotations(&list, (size_t)ion_map_word(value, ION_MAP_VALUE_ANNOTATIONS), (size_t)descriptor)) {
+        descriptor = ion_map_word(value, ION_MAP_AT_VALUE_DESCRIPTOR);
+        if (!print_annotations(&list, (size_t)ion_map_word(value, ION_MAP_AT_VALUE_ANNOTATIONS), (size_t)descriptor)) {
             return 0;
         }
-        byte = ion_map_word(value, ION_MAP_VALUE_BYTE);
+        byte = ion_map_word(value, ION_MAP_AT_VALUE_BYTE);
         if (ion_map_type(byte) == ION_MAP_TYPE_SYMBOL && !ion_map_is_null(byte)) {
             if (ion_map_scalar(map, length, start, end, (size_t)descriptor, LIMIT, record, sizeof record) != 0) {
                 return refused(record);
             }
-            if (!print_name(&list, descriptor, "symbol", ion_map_word(record, ION_MAP_SCALAR_NUMBER))) {
+            if (!print_name(&list, descriptor, "symbol", ion_map_word(record, ION_MAP_AT_SCALAR_NUMBER))) {
                 return 0;
             }
         }
         if (ion_map_is_container(byte) && depth < MOST_DEPTH
-            && !print_part(&list, (size_t)ion_map_word(value, ION_MAP_VALUE_BODY), position, ion_map_body_kind(byte),
+            && !print_part(&list, (size_t)ion_map_word(value, ION_MAP_AT_VALUE_BODY), position, ion_map_body_kind(byte),
                            depth + 1)) {
             return 0;
         }

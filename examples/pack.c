@@ -71,7 +71,7 @@ int main(int argc, char **argv)
         fprintf(stderr, "refused %" PRIu64 " %" PRIu64 "\n", refusal, ion_map_word(record, 2));
         return 1;
     }
-    if (!write_all(argv[2], packed, (size_t)ion_map_word(record, ION_MAP_PACKED_SIZE))) {
+    if (!write_all(argv[2], packed, (size_t)ion_map_word(record, ION_MAP_AT_PACKED_SIZE))) {
         perror(argv[2]);
         return 1;
     }

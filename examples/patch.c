@@ -52,19 +52,19 @@ static size_t word(const uint8_t *record, size_t i)
 static int is_table(const uint8_t *value)
 {
     uint8_t first[ION_MAP_RECORD_SIZE];
-    uint64_t byte = ion_map_word(value, ION_MAP_VALUE_BYTE);
-    size_t start = word(value, ION_MAP_VALUE_ANNOTATIONS);
-    size_t end = word(value, ION_MAP_VALUE_DESCRIPTOR);
+    uint64_t byte = ion_map_word(value, ION_MAP_AT_VALUE_BYTE);
+    size_t start = word(value, ION_MAP_AT_VALUE_ANNOTATIONS);
+    size_t end = word(value, ION_MAP_AT_VALUE_DESCRIPTOR);
 
     return ion_map_type(byte) == ION_MAP_TYPE_STRUCT && !ion_map_is_null(byte) && start < end
         && ion_map_annotation(map, length, start, end, start, first, sizeof first) == 0
-        && ion_map_word(first, ION_MAP_ANNOTATION_ID) == TABLE_ANNOTATION;
+        && ion_map_word(first, ION_MAP_AT_ANNOTATION_ID) == TABLE_ANNOTATION;
 }
 
 /* Whether a value is patched: text or bytes, wherever it stands outside the symbol tables. */
 static int is_chosen(const uint8_t *value)
 {
-    uint64_t byte = ion_map_word(value, ION_MAP_VALUE_BYTE);
+    uint64_t byte = ion_map_word(value, ION_MAP_AT_VALUE_BYTE);
     uint64_t type = ion_map_type(byte);
 
     return !ion_map_is_null(byte)
@@ -83,10 +83,10 @@ static void patch_bytes(size_t start, size_t end)
 
 static void patch(const uint8_t *value)
 {
-    size_t start = word(value, ION_MAP_VALUE_ANNOTATIONS);
-    size_t end = word(value, ION_MAP_VALUE_DESCRIPTOR);
+    size_t start = word(value, ION_MAP_AT_VALUE_ANNOTATIONS);
+    size_t end = word(value, ION_MAP_AT_VALUE_DESCRIPTOR);
 
-    patch_bytes(word(value, ION_MAP_VALUE_BODY), word(value, ION_MAP_VALUE_END));
+    patch_bytes(word(value, ION_MAP_AT_VALUE_BODY), word(value, ION_MAP_AT_VALUE_END));
     patch_bytes(start, end);
     bodies++;
     annotations += start < end;
@@ -99,17 +99,17 @@ static void patch_part(size_t start, size_t end, uint64_t kind, int depth)
     size_t position = start;
 
     while (ion_map_step(map, length, start, end, position, kind, LIMIT, value, sizeof value) == 0
-           && ion_map_word(value, ION_MAP_WORD_KIND) != ION_MAP_KIND_END) {
-        uint64_t byte = ion_map_word(value, ION_MAP_VALUE_BYTE);
+           && ion_map_word(value, ION_MAP_AT_KIND) != ION_MAP_KIND_END) {
+        uint64_t byte = ion_map_word(value, ION_MAP_AT_VALUE_BYTE);
 
-        position = word(value, ION_MAP_VALUE_END);
-        if (ion_map_word(value, ION_MAP_WORD_KIND) == ION_MAP_KIND_MARKER || (depth == 0 && is_table(value))) {
+        position = word(value, ION_MAP_AT_VALUE_END);
+        if (ion_map_word(value, ION_MAP_AT_KIND) == ION_MAP_KIND_MARKER || (depth == 0 && is_table(value))) {
             continue;
         }
         if (is_chosen(value)) {
             patch(value);
         } else if (ion_map_is_container(byte) && depth < MOST_DEPTH) {
-            patch_part(word(value, ION_MAP_VALUE_BODY), position, ion_map_body_kind(byte), depth + 1);
+            patch_part(word(value, ION_MAP_AT_VALUE_BODY), position, ion_map_body_kind(byte), depth + 1);
         }
     }
 }
@@ -142,7 +142,7 @@ static void compare_annotations(size_t start, size_t end)
         if (refused != 0) {
             return;
         }
-        position = word(before, ION_MAP_ANNOTATION_END);
+        position = word(before, ION_MAP_AT_ANNOTATION_END);
     }
 }
 
@@ -155,8 +155,8 @@ static void compare_part(size_t start, size_t end, uint64_t kind, int depth, int
 
     for (;;) {
         uint64_t refused = ion_map_step(map, length, start, end, position, kind, LIMIT, value, sizeof value);
-        uint64_t byte = ion_map_word(value, ION_MAP_VALUE_BYTE);
-        size_t descriptor = word(value, ION_MAP_VALUE_DESCRIPTOR);
+        uint64_t byte = ion_map_word(value, ION_MAP_AT_VALUE_BYTE);
+        size_t descriptor = word(value, ION_MAP_AT_VALUE_DESCRIPTOR);
         int table;
 
         ion_map_step(patched, length, start, end, position, kind, LIMIT, after, sizeof after);
@@ -165,18 +165,18 @@ static void compare_part(size_t start, size_t end, uint64_t kind, int depth, int
             return;
         }
         if (depth == 0) {
-            compare_texts(word(value, ION_MAP_VALUE_START));
+            compare_texts(word(value, ION_MAP_AT_VALUE_START));
         }
-        if (ion_map_word(value, ION_MAP_WORD_KIND) == ION_MAP_KIND_END) {
+        if (ion_map_word(value, ION_MAP_AT_KIND) == ION_MAP_KIND_END) {
             return;
         }
-        position = word(value, ION_MAP_VALUE_END);
-        if (ion_map_word(value, ION_MAP_WORD_KIND) == ION_MAP_KIND_MARKER) {
+        position = word(value, ION_MAP_AT_VALUE_END);
+        if (ion_map_word(value, ION_MAP_AT_KIND) == ION_MAP_KIND_MARKER) {
             continue;
         }
         table = inside || (depth == 0 && is_table(value));
         if (table || !is_chosen(value)) {
-            compare_annotations(word(value, ION_MAP_VALUE_ANNOTATIONS), descriptor);
+            compare_annotations(word(value, ION_MAP_AT_VALUE_ANNOTATIONS), descriptor);
             ion_map_scalar(map, length, start, end, descriptor, LIMIT, before, sizeof before);
             ion_map_scalar(patched, length, start, end, descriptor, LIMIT, after, sizeof after);
             compare("a scalar", descriptor, before, after, &scalars);
@@ -185,7 +185,7 @@ static void compare_part(size_t start, size_t end, uint64_t kind, int depth, int
             ion_map_step_in(map, length, start, end, descriptor, LIMIT, before, sizeof before);
             ion_map_step_in(patched, length, start, end, descriptor, LIMIT, after, sizeof after);
             compare("stepping in", descriptor, before, after, &entered);
-            compare_part(word(value, ION_MAP_VALUE_BODY), position, ion_map_body_kind(byte), depth + 1, table);
+            compare_part(word(value, ION_MAP_AT_VALUE_BODY), position, ion_map_body_kind(byte), depth + 1, table);
         }
     }
 }

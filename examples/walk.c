@@ -49,19 +49,19 @@ static void print_item(int depth, const char *name, uint64_t start, uint64_t des
 
 static void print_marker(int depth, const uint8_t *record)
 {
-    uint64_t start = ion_map_word(record, ION_MAP_MARKER_START);
+    uint64_t start = ion_map_word(record, ION_MAP_AT_MARKER_START);
 
-    print_item(depth, "marker", start, start, ion_map_word(record, ION_MAP_MARKER_BODY),
-               ion_map_word(record, ION_MAP_MARKER_END));
+    print_item(depth, "marker", start, start, ion_map_word(record, ION_MAP_AT_MARKER_BODY),
+               ion_map_word(record, ION_MAP_AT_MARKER_END));
 }
 
 static void print_value(int depth, const uint8_t *record)
 {
-    uint64_t byte = ion_map_word(record, ION_MAP_VALUE_BYTE);
+    uint64_t byte = ion_map_word(record, ION_MAP_AT_VALUE_BYTE);
 
-    print_item(depth, type_names[ion_map_type(byte)], ion_map_word(record, ION_MAP_VALUE_START),
-               ion_map_word(record, ION_MAP_VALUE_DESCRIPTOR), ion_map_word(record, ION_MAP_VALUE_BODY),
-               ion_map_word(record, ION_MAP_VALUE_END));
+    print_item(depth, type_names[ion_map_type(byte)], ion_map_word(record, ION_MAP_AT_VALUE_START),
+               ion_map_word(record, ION_MAP_AT_VALUE_DESCRIPTOR), ion_map_word(record, ION_MAP_AT_VALUE_BODY),
+               ion_map_word(record, ION_MAP_AT_VALUE_END));
 }
 
 /* Returns the status of a map that was refused. */
@@ -76,9 +76,9 @@ static struct part body_of(const uint8_t *record)
 {
     struct part body;
 
-    body.start = (size_t)ion_map_word(record, ION_MAP_VALUE_BODY);
-    body.end = (size_t)ion_map_word(record, ION_MAP_VALUE_END);
-    body.kind = ion_map_body_kind(ion_map_word(record, ION_MAP_VALUE_BYTE));
+    body.start = (size_t)ion_map_word(record, ION_MAP_AT_VALUE_BODY);
+    body.end = (size_t)ion_map_word(record, ION_MAP_AT_VALUE_END);
+    body.kind = ion_map_body_kind(ion_map_word(record, ION_MAP_AT_VALUE_BYTE));
     return body;
 }
 
@@ -100,12 +100,12 @@ static int walk(size_t length)
                                         ION_MAP_DEFAULT_ANNOTATIONS, record, sizeof record);
 
         if (refused != 0) {
-            return print_refused(refused, ion_map_word(record, ION_MAP_REFUSED_POSITION));
+            return print_refused(refused, ion_map_word(record, ION_MAP_AT_REFUSED_POSITION));
         }
-        switch (ion_map_word(record, ION_MAP_WORD_KIND)) {
+        switch (ion_map_word(record, ION_MAP_AT_KIND)) {
         case ION_MAP_KIND_END:
             if (depth == 0) {
-                printf("end %" PRIu64 "\n", ion_map_word(record, ION_MAP_END_POSITION));
+                printf("end %" PRIu64 "\n", ion_map_word(record, ION_MAP_AT_END_POSITION));
                 return WALKED;
             }
             position = part->end; /* the container ends where its body does */
@@ -113,16 +113,16 @@ static int walk(size_t length)
             break;
         case ION_MAP_KIND_MARKER:
             print_marker(depth, record);
-            position = (size_t)ion_map_word(record, ION_MAP_MARKER_END);
+            position = (size_t)ion_map_word(record, ION_MAP_AT_MARKER_END);
             break;
         default: /* a value or a field */
             print_value(depth, record);
-            position = (size_t)ion_map_word(record, ION_MAP_VALUE_END);
-            if (!ion_map_is_container(ion_map_word(record, ION_MAP_VALUE_BYTE))) {
+            position = (size_t)ion_map_word(record, ION_MAP_AT_VALUE_END);
+            if (!ion_map_is_container(ion_map_word(record, ION_MAP_AT_VALUE_BYTE))) {
                 break;
             }
             if (depth == MOST_DEPTH) {
-                return print_refused(ION_MAP_REFUSAL_TOO_DEEP, ion_map_word(record, ION_MAP_VALUE_DESCRIPTOR));
+                return print_refused(ION_MAP_REFUSAL_TOO_DEEP, ion_map_word(record, ION_MAP_AT_VALUE_DESCRIPTOR));
             }
             depth++;
             parts[depth] = body_of(record);

@@ -16,7 +16,7 @@ static size_t length(uint64_t refusal)
         fprintf(stderr, "refused: %u at %u\n", (unsigned)refusal, (unsigned)ion_map_word(record, 2));
         return 0;
     }
-    return (size_t)ion_map_word(record, ION_MAP_WRITTEN_LENGTH);
+    return (size_t)ion_map_word(record, ION_MAP_AT_WRITTEN_LENGTH);
 }
 
 int main(void)
@@ -53,11 +53,11 @@ int main(void)
     for (n = 0;;) {
         if (ion_map_step(map, at, 0, at, n, ION_MAP_PART_STREAM, ION_MAP_DEFAULT_ANNOTATIONS, record, sizeof record) != 0)
             return 1;
-        if (ion_map_word(record, ION_MAP_WORD_KIND) == ION_MAP_KIND_END)
+        if (ion_map_word(record, ION_MAP_AT_KIND) == ION_MAP_KIND_END)
             break;
         size = (size_t)ion_map_word(record, 6);
         printf("%u..%u %s\n", (unsigned)n, (unsigned)size,
-               ion_map_word(record, ION_MAP_WORD_KIND) == ION_MAP_KIND_MARKER ? "marker" : "value");
+               ion_map_word(record, ION_MAP_AT_KIND) == ION_MAP_KIND_MARKER ? "marker" : "value");
         n = size;
     }
     return 0;
