@@ -456,8 +456,9 @@ extern "C" {
 /* One step past `most` pads at most, so that it comes back soon also where a map holds nothing but pads. The other
    arguments are those of ion_map_step. It answers what ion_map_step does, or, where `most` pads were passed and another
    pad's descriptor comes next, MORE: go on from word POSITION. Of that next pad nothing is read yet but its descriptor,
-   in a struct its field ID before that. Repeated, it reaches the item, end or refusal of ion_map_step. Record kinds:
-   those of ion_map_step, and MORE. */
+   in a struct its field ID before that. Repeated, it reaches the item, end or refusal of ion_map_step. Only a number
+   without a last byte, such as zeros for a field ID, is read up to the part's end, however long that is, before it is
+   refused. Record kinds: those of ion_map_step, and MORE. */
 uint64_t ion_map_step_bounded(const uint8_t *map, size_t map_len, size_t start, size_t end, size_t position,
                               uint64_t kind, size_t most, size_t annotations, uint8_t *out, size_t out_len);
 
