@@ -55,7 +55,8 @@ static void call_scalar(void)
 
 static void call_text(void)
 {
-    answer = ion_map_text(map, length, ion_map_system_text(), ION_MAP_SYSTEM_TEXT_SIZE, 0, length, length, 10, LIMIT, out, SIZE);
+    answer = ion_map_text(map, length, ion_map_system_text(), ION_MAP_SYSTEM_TEXT_SIZE, 0, length, length, 10, LIMIT, out,
+                          SIZE);
 }
 
 static void call_walked(void)

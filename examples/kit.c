@@ -549,7 +549,8 @@ static void check_no_record(void)
 static void check_room(void)
 {
     static const size_t lengths[] = {0, 1, 13, 14, 127, 128, 16383, 16384, 65535};
-    enum { LENGTHS = sizeof lengths / sizeof *lengths, MOST = 65535, HEAD = ION_MAP_MOST_HEAD_SIZE, SIZE = ION_MAP_RECORD_SIZE };
+    enum { LENGTHS = sizeof lengths / sizeof *lengths, MOST = 65535, HEAD = ION_MAP_MOST_HEAD_SIZE };
+    enum { SIZE = ION_MAP_RECORD_SIZE, MANY = ION_MAP_MOST_ANNOTATIONS };
     static uint8_t zeros[MOST], ids[MOST], value[MOST + HEAD], to[MOST + MOST + HEAD + ION_MAP_MOST_WRAPPER_SIZE];
     size_t i, k;
 
@@ -558,14 +559,16 @@ static void check_room(void)
     for (i = 0; i < LENGTHS; i++) {
         size_t n = lengths[i], size;
 
-        check("room for a list", ion_map_write_container(ION_MAP_TYPE_LIST, zeros, n, LIMIT, DEPTH, to, n + HEAD, record, SIZE), 0);
+        check("room for a list",
+              ion_map_write_container(ION_MAP_TYPE_LIST, zeros, n, LIMIT, DEPTH, to, n + HEAD, record, SIZE), 0);
         check("room for an int", ion_map_write_int(zeros, n, 0, to, n + HEAD, record, SIZE), 0);
         check("room for a blob", ion_map_write_scalar(ION_MAP_TYPE_BLOB, zeros, n, value, n + HEAD, record, SIZE), 0);
         size = (size_t)ion_map_word(record, ION_MAP_AT_WRITTEN_LENGTH);
         for (k = 1; k < LENGTHS; k++) {
             size_t room = lengths[k] + size + ION_MAP_MOST_WRAPPER_SIZE;
 
-            check("room for a wrapper", ion_map_write_wrapper(ids, lengths[k], value, size, ION_MAP_MOST_ANNOTATIONS, DEPTH, to, room, record, SIZE), 0);
+            check("room for a wrapper",
+                  ion_map_write_wrapper(ids, lengths[k], value, size, MANY, DEPTH, to, room, record, SIZE), 0);
         }
     }
     check("room for a symbol", ion_map_write_symbol(UINT64_MAX, to, ION_MAP_MOST_NUMBER_SIZE, record, SIZE), 0);
@@ -578,7 +581,8 @@ static void check_room(void)
    numbers say in which. */
 static void check_wrapper_refusals(void)
 {
-    static const uint8_t id[] = {0x84, 0x04}, four[] = {0x84}, int_seven[] = {0x21, 0x07}, cut[] = {0x2E, 0x04}, short_int[] = {0x22, 0x07};
+    static const uint8_t id[] = {0x84, 0x04}, four[] = {0x84};
+    static const uint8_t int_seven[] = {0x21, 0x07}, cut[] = {0x2E, 0x04}, short_int[] = {0x22, 0x07};
     static const words in_ids = {ION_MAP_KIND_REFUSED, ION_MAP_REFUSAL_VAR_UINT_CUT, 2, 0, 0, 0, 0, 0, 0};
     static const words in_short = {ION_MAP_KIND_REFUSED, ION_MAP_REFUSAL_VALUE_CUT, 0, 0, 0, 0, 0, 0, 0};
     static const words at_0 = {ION_MAP_KIND_REFUSED, ION_MAP_REFUSAL_NO_ANNOTATIONS, 0, 0, 0, 0, 0, 0, 0};

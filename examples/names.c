@@ -268,7 +268,8 @@ static int print_part(size_t start, size_t end, uint64_t kind, int depth)
             if (depth == MOST_DEPTH) {
                 return print_refused(ION_MAP_REFUSAL_TOO_DEEP, descriptor);
             }
-            status = print_part((size_t)ion_map_word(value, ION_MAP_AT_VALUE_BODY), position, ion_map_body_kind(byte), depth + 1);
+            status = print_part((size_t)ion_map_word(value, ION_MAP_AT_VALUE_BODY), position, ion_map_body_kind(byte),
+                                depth + 1);
         }
         if (status != GOOD) {
             return status;

@@ -655,9 +655,9 @@ uint64_t ion_map_pack(const uint8_t *map, size_t map_len, size_t annotations, si
    buffer), 68, 50, 71, then the reader's own (any of parts 1 and 2: what ion_map_check would refuse of the thing as
    a map; its position counts in the lent bytes then read, and is 0 for a descriptor that would be written), 70.
 
-   The lent bytes then read are a container's or a scalar's body; a wrapper has two, its annotations and its value. There
-   23, 25, 26 and 29 are at 0; 3 and 20 can lie in either, so that the position alone doesn't say in which; all other
-   refusals lie in the value. */
+   The lent bytes then read are a container's or a scalar's body; a wrapper has two of them, its annotations and its
+   value. Of the reader's own refusals of a wrapper 3 and 20 can lie in either, and number and position don't say in
+   which; all others lie in the value, but for 23, 25, 26 and 29 at 0, which are of the wrapper that would be written. */
 
 /* Kind of the record of part 5, beside ION_MAP_KIND_REFUSED: word 3 is the length; the others are 0. */
 enum {
