@@ -19,7 +19,7 @@ static struct part body_of(const uint8_t *record, uint64_t byte, size_t end)
 {
     struct part body;
 
-    body.start = body.at = (size_t)ion_map_word(record, ION_MAP_VALUE_BODY);
+    body.start = body.at = (size_t)ion_map_word(record, ION_MAP_AT_VALUE_BODY);
     body.end = end;
     body.kind = ion_map_body_kind(byte);
     return body;
@@ -40,7 +40,7 @@ uint64_t header_step(const uint8_t *map, size_t len, uint64_t *ends_sum, struct 
         if (ion_map_step(map, len, part.start, part.end, part.at, part.kind, LIMIT, record, sizeof record) != 0) {
             return FAILED;
         }
-        if (ion_map_word(record, ION_MAP_WORD_KIND) == ION_MAP_KIND_END) {
+        if (ion_map_word(record, ION_MAP_AT_KIND) == ION_MAP_KIND_END) {
             if (depth == 0) {
                 *ends_sum = sum;
                 return items;
@@ -49,9 +49,9 @@ uint64_t header_step(const uint8_t *map, size_t len, uint64_t *ends_sum, struct 
             continue;
         }
         items++;
-        part.at = (size_t)ion_map_word(record, ION_MAP_VALUE_END);
+        part.at = (size_t)ion_map_word(record, ION_MAP_AT_VALUE_END);
         sum += part.at;
-        byte = ion_map_word(record, ION_MAP_VALUE_BYTE);
+        byte = ion_map_word(record, ION_MAP_AT_VALUE_BYTE);
         if (ion_map_is_container(byte)) {
             if (depth == room) {
                 return FAILED;
@@ -82,16 +82,16 @@ uint64_t header_steps(const uint8_t *map, size_t len, uint64_t *ends_sum, uint8_
             return FAILED;
         }
         last = records + (count - 1) * ION_MAP_RECORD_SIZE;
-        if (ion_map_word(last, ION_MAP_WORD_KIND) == ION_MAP_KIND_END) {
+        if (ion_map_word(last, ION_MAP_AT_KIND) == ION_MAP_KIND_END) {
             count--;
         } else {
-            part->at = (size_t)ion_map_word(last, ION_MAP_VALUE_END);
+            part->at = (size_t)ion_map_word(last, ION_MAP_AT_VALUE_END);
             waiting++;
         }
         items += count;
         for (; count > 0; count--, record += ION_MAP_RECORD_SIZE) {
-            uint64_t byte = ion_map_word(record, ION_MAP_VALUE_BYTE);
-            size_t end = (size_t)ion_map_word(record, ION_MAP_VALUE_END);
+            uint64_t byte = ion_map_word(record, ION_MAP_AT_VALUE_BYTE);
+            size_t end = (size_t)ion_map_word(record, ION_MAP_AT_VALUE_END);
 
             sum += end;
             if (ion_map_is_container(byte)) {

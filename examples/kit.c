@@ -1,10 +1,11 @@
-/* Asks every function of ion_map.h about a small map, and the step about one that isn't Ion 1.0, and checks the answers.
+/* Asks every function of ion_map.h and of ion_map_kit.h about small maps, and checks the answers.
 
      cc -std=c99 -O2 -I include examples/kit.c target/libion_map.a -o kit && ./kit
 
    Returns 0 where all are as they should be; otherwise it says what differs and returns 1. */
 
 #include "ion_map.h"
+#include "ion_map_kit.h"
 
 #include <inttypes.h>
 #include <stdio.h>
@@ -64,8 +65,8 @@ static void check_step(void)
     check("marker", ion_map_step(map, LENGTH, 0, LENGTH, 0, ION_MAP_PART_STREAM, LIMIT, record, sizeof record), 0);
     check_words("marker", record, marker);
     check("struct", ion_map_step(map, LENGTH, 0, LENGTH, 4, ION_MAP_PART_STREAM, LIMIT, record, sizeof record), 0);
-    byte = ion_map_word(record, ION_MAP_VALUE_BYTE);
-    check("the struct's body's length", ion_map_word(record, ION_MAP_WORD_LENGTH), 5);
+    byte = ion_map_word(record, ION_MAP_AT_VALUE_BYTE);
+    check("the struct's body's length", ion_map_word(record, ION_MAP_AT_LENGTH), 5);
     check_words("struct", record, value);
     check("the struct's type", ion_map_type(byte), ION_MAP_TYPE_STRUCT);
     check("the struct is null", ion_map_is_null(byte) != 0, 0);
@@ -172,11 +173,11 @@ static void check_scalar(void)
     check("int", ion_map_scalar(map, LENGTH, 8, 13, 11, LIMIT, record, sizeof record), 0);
     check_words("int", record, number);
     check("string", ion_map_scalar(map, LENGTH, 0, LENGTH, 13, LIMIT, record, sizeof record), 0);
-    check("text's length", ion_map_word(record, ION_MAP_WORD_LENGTH), 2);
-    check("text", memcmp(map + ion_map_word(record, ION_MAP_SCALAR_START), "hi", 2) != 0, 0);
+    check("text's length", ion_map_word(record, ION_MAP_AT_LENGTH), 2);
+    check("text", memcmp(map + ion_map_word(record, ION_MAP_AT_SCALAR_START), "hi", 2) != 0, 0);
     check_words("string", record, string);
     check("float", ion_map_scalar(map, LENGTH, 0, LENGTH, 19, LIMIT, record, sizeof record), 0);
-    bits = ion_map_word(record, ION_MAP_SCALAR_NUMBER);
+    bits = ion_map_word(record, ION_MAP_AT_SCALAR_NUMBER);
     memcpy(&real, &bits, sizeof real);
     check("float is 1.5", real == 1.5, 1);
     check("a pad is no scalar", ion_map_scalar(map, LENGTH, 8, 13, 9, LIMIT, record, sizeof record), 22);
@@ -337,7 +338,7 @@ static void check_written(const char *what, uint64_t returned, const uint8_t *to
 {
     words written = {ION_MAP_KIND_WRITTEN, 0, 0, 0, 0, 0, 0, 0, 0};
 
-    written[ION_MAP_WRITTEN_LENGTH] = length;
+    written[ION_MAP_AT_WRITTEN_LENGTH] = length;
     check(what, returned, 0);
     check_words(what, record, written);
     check(what, memcmp(to, bytes, length) != 0, 0);
@@ -403,7 +404,7 @@ static void check_symbols(void)
     check("text", ion_map_text(names, SIZE, system, NINE, 0, SIZE, 16, 10, LIMIT, record, sizeof record), 0);
     check_words("text", record, tree);
     check("system text", ion_map_text(names, SIZE, system, NINE, 0, SIZE, 16, 4, LIMIT, record, sizeof record), 0);
-    check("its bytes", memcmp(system + ion_map_word(record, ION_MAP_TEXT_START), "name", 4) != 0, 0);
+    check("its bytes", memcmp(system + ion_map_word(record, ION_MAP_AT_TEXT_START), "name", 4) != 0, 0);
     check_words("system text", record, name);
     check("unknown", ion_map_text(names, SIZE, system, NINE, 0, SIZE, SIZE, 11, LIMIT, record, sizeof record), 0);
     check_words("unknown", record, none);
@@ -494,6 +495,295 @@ static void check_null(void)
     check("nothing at all", ion_map_step(NULL, 0, 0, 0, 0, 0, LIMIT, NULL, 0), 51);
 }
 
+/* Every value's scalar and body, read in the part that handed it out and in its own bytes, DESCRIPTOR..END: the answers
+   are the same. */
+static void check_own_part(void)
+{
+    static const uint8_t values[] = {
+        0xE6, 0x81, 0x84, 0xD3, 0x85, 0x21, 0x07,       /*  0: a struct in a wrapper */
+        0x8E, 0x82, 0x68, 0x69,                         /*  7: a string with a length field */
+        0x12,                                           /* 11: no bool, which the step hands out */
+        0x81, 0xFF,                                     /* 12: no UTF-8 */
+        0x63, 0xC0, 0x0F, 0xD0,                         /* 14: the year 2000 */
+        0x62, 0xC0, 0x0F,                               /* 18: a timestamp without its year's last byte */
+        0xBF, 0xD0, 0xDE, 0x80, 0x4F, 0x40              /* 21: a null, two empty structs, a null, a zero */
+    };
+    enum { SIZE = sizeof values };
+    uint8_t value[ION_MAP_RECORD_SIZE], whole[ION_MAP_RECORD_SIZE], own[ION_MAP_RECORD_SIZE];
+    size_t position = 0;
+    unsigned met = 0;
+
+    while (ion_map_step(values, SIZE, 0, SIZE, position, ION_MAP_PART_STREAM, LIMIT, value, sizeof value) == 0
+           && ion_map_word(value, ION_MAP_AT_KIND) == ION_MAP_KIND_VALUE) {
+        size_t at = (size_t)ion_map_word(value, ION_MAP_AT_VALUE_DESCRIPTOR);
+
+        position = (size_t)ion_map_word(value, ION_MAP_AT_VALUE_END);
+        met++;
+        check("own part, scalar", ion_map_scalar(values, SIZE, at, position, at, LIMIT, own, sizeof own),
+              ion_map_scalar(values, SIZE, 0, SIZE, at, LIMIT, whole, sizeof whole));
+        check("own part, scalar's record", memcmp(own, whole, sizeof own) != 0, 0);
+        check("own part, body", ion_map_step_in(values, SIZE, at, position, at, LIMIT, own, sizeof own),
+              ion_map_step_in(values, SIZE, 0, SIZE, at, LIMIT, whole, sizeof whole));
+        check("own part, body's record", memcmp(own, whole, sizeof own) != 0, 0);
+        check("own part, timestamp", ion_map_timestamp(values, SIZE, at, position, at, LIMIT, own, sizeof own),
+              ion_map_timestamp(values, SIZE, 0, SIZE, at, LIMIT, whole, sizeof whole));
+        check("own part, timestamp's record", memcmp(own, whole, sizeof own) != 0, 0);
+    }
+    check("values with a part of their own", met, 11);
+}
+
+/* After 51 there is no record: the buffer holds what it held. */
+static void check_no_record(void)
+{
+    size_t i;
+
+    memset(record, 0xAA, sizeof record);
+    check("no room for a record", ion_map_step(map, LENGTH, 0, LENGTH, 0, 0, LIMIT, record, sizeof record - 1), 51);
+    for (i = 0; i < sizeof record; i++) {
+        check("a byte after 51", record[i], 0xAA);
+    }
+}
+
+/* With as much room as the header says, nothing is refused with 70. Nobody has memory for lengths of nine bytes: what is
+   tried are the lengths around each further byte. */
+static void check_room(void)
+{
+    static const size_t lengths[] = {0, 1, 13, 14, 127, 128, 16383, 16384, 65535};
+    enum { LENGTHS = sizeof lengths / sizeof *lengths, MOST = 65535, HEAD = ION_MAP_MOST_HEAD_SIZE };
+    enum { SIZE = ION_MAP_RECORD_SIZE, MANY = ION_MAP_MOST_ANNOTATIONS };
+    static uint8_t zeros[MOST], ids[MOST], value[MOST + HEAD], to[MOST + MOST + HEAD + ION_MAP_MOST_WRAPPER_SIZE];
+    size_t i, k;
+
+    memset(zeros, 0x20, sizeof zeros);
+    memset(ids, 0x84, sizeof ids);
+    for (i = 0; i < LENGTHS; i++) {
+        size_t n = lengths[i], size;
+
+        check("room for a list",
+              ion_map_write_container(ION_MAP_TYPE_LIST, zeros, n, LIMIT, DEPTH, to, n + HEAD, record, SIZE), 0);
+        check("room for an int", ion_map_write_int(zeros, n, 0, to, n + HEAD, record, SIZE), 0);
+        check("room for a blob", ion_map_write_scalar(ION_MAP_TYPE_BLOB, zeros, n, value, n + HEAD, record, SIZE), 0);
+        size = (size_t)ion_map_word(record, ION_MAP_AT_WRITTEN_LENGTH);
+        for (k = 1; k < LENGTHS; k++) {
+            size_t room = lengths[k] + size + ION_MAP_MOST_WRAPPER_SIZE;
+
+            check("room for a wrapper",
+                  ion_map_write_wrapper(ids, lengths[k], value, size, MANY, DEPTH, to, room, record, SIZE), 0);
+        }
+    }
+    check("room for a symbol", ion_map_write_symbol(UINT64_MAX, to, ION_MAP_MOST_NUMBER_SIZE, record, SIZE), 0);
+    check("less room for a symbol", ion_map_write_symbol(UINT64_MAX, to, ION_MAP_MOST_NUMBER_SIZE - 1, record, SIZE), 70);
+    check("room for a float", ion_map_write_float(1, to, ION_MAP_MOST_NUMBER_SIZE, record, SIZE), 0);
+    check("less room for a float", ion_map_write_float(1, to, ION_MAP_MOST_NUMBER_SIZE - 1, record, SIZE), 70);
+}
+
+/* A refusal of a wrapper that would be written: its position counts in the annotations or in the value, and only some
+   numbers say in which. */
+static void check_wrapper_refusals(void)
+{
+    static const uint8_t id[] = {0x84, 0x04}, four[] = {0x84};
+    static const uint8_t int_seven[] = {0x21, 0x07}, cut[] = {0x2E, 0x04}, short_int[] = {0x22, 0x07};
+    static const words in_ids = {ION_MAP_KIND_REFUSED, ION_MAP_REFUSAL_VAR_UINT_CUT, 2, 0, 0, 0, 0, 0, 0};
+    static const words in_short = {ION_MAP_KIND_REFUSED, ION_MAP_REFUSAL_VALUE_CUT, 0, 0, 0, 0, 0, 0, 0};
+    static const words at_0 = {ION_MAP_KIND_REFUSED, ION_MAP_REFUSAL_NO_ANNOTATIONS, 0, 0, 0, 0, 0, 0, 0};
+    enum { SIZE = ION_MAP_RECORD_SIZE };
+    uint8_t to[16];
+
+    check("an ID that is cut", ion_map_write_wrapper(id, 2, int_seven, 2, LIMIT, DEPTH, to, 16, record, SIZE), 3);
+    check_words("an ID that is cut", record, in_ids);
+    check("a length that is cut", ion_map_write_wrapper(four, 1, cut, 2, LIMIT, DEPTH, to, 16, record, SIZE), 3);
+    check_words("a length that is cut", record, in_ids);
+    check("a value that is cut", ion_map_write_wrapper(four, 1, short_int, 2, LIMIT, DEPTH, to, 16, record, SIZE), 8);
+    check_words("a value that is cut", record, in_short);
+    check("no annotations", ion_map_write_wrapper(NULL, 0, int_seven, 2, LIMIT, DEPTH, to, 16, record, SIZE), 23);
+    check_words("no annotations", record, at_0);
+}
+
+/* A map of one int, or of one value, of so many bytes: its scalar's record. */
+static uint64_t read_scalar(const uint8_t *value, size_t size)
+{
+    return ion_map_scalar(value, size, 0, size, 0, LIMIT, record, sizeof record);
+}
+
+static void check_int64(void)
+{
+    static const struct {
+        uint8_t bytes[12];
+        size_t size;
+        int fits;
+        int64_t value;
+    } ints[] = {
+        {{0x20}, 1, 1, 0},
+        {{0x21, 0x07}, 2, 1, 7},
+        {{0x31, 0x07}, 2, 1, -7},
+        {{0x23, 0x00, 0x01, 0x00}, 4, 1, 256},
+        {{0x31, 0x01}, 2, 1, -1},
+        {{0x28, 0x7F, 0xFF, 0xFF, 0xFF, 0xFF, 0xFF, 0xFF, 0xFF}, 9, 1, INT64_MAX},
+        {{0x28, 0x80, 0, 0, 0, 0, 0, 0, 0}, 9, 0, 0},                       /* INT64_MAX and 1 */
+        {{0x28, 0xFF, 0xFF, 0xFF, 0xFF, 0xFF, 0xFF, 0xFF, 0xFF}, 9, 0, 0},  /* UINT64_MAX */
+        {{0x29, 0x01, 0, 0, 0, 0, 0, 0, 0, 0}, 10, 0, 0},                   /* and 1 */
+        {{0x29, 0x00, 0x7F, 0xFF, 0xFF, 0xFF, 0xFF, 0xFF, 0xFF, 0xFF}, 10, 1, INT64_MAX},
+        {{0x38, 0x7F, 0xFF, 0xFF, 0xFF, 0xFF, 0xFF, 0xFF, 0xFF}, 9, 1, -INT64_MAX},
+        {{0x38, 0x80, 0, 0, 0, 0, 0, 0, 0}, 9, 1, INT64_MIN},
+        {{0x38, 0x80, 0, 0, 0, 0, 0, 0, 1}, 9, 0, 0},                       /* INT64_MIN less 1 */
+        {{0x38, 0xFF, 0xFF, 0xFF, 0xFF, 0xFF, 0xFF, 0xFF, 0xFF}, 9, 0, 0},
+        {{0x39, 0x01, 0, 0, 0, 0, 0, 0, 0, 0}, 10, 0, 0},
+        {{0x2F}, 1, 0, 0},                                                  /* a null */
+        {{0x40}, 1, 0, 0},                                                  /* a float */
+        {{0x71, 0x07}, 2, 0, 0}                                             /* a symbol */
+    };
+    static const uint8_t zero[] = {0x31, 0x00}; /* refused */
+    size_t i;
+    int64_t value;
+
+    for (i = 0; i < sizeof ints / sizeof *ints; i++) {
+        char what[40];
+
+        snprintf(what, sizeof what, "int %u as int64_t", (unsigned)i);
+        value = 99;
+        check(what, read_scalar(ints[i].bytes, ints[i].size), 0);
+        check(what, (uint64_t)ion_map_get_int64(ints[i].bytes, ints[i].size, record, &value), (uint64_t)ints[i].fits);
+        check(what, (uint64_t)value, (uint64_t)(ints[i].fits ? ints[i].value : 99));
+    }
+    check("a record of another map", read_scalar(ints[5].bytes, ints[5].size), 0);
+    check("a record of another map", (uint64_t)ion_map_get_int64(ints[5].bytes, 8, record, &value), 0);
+    check("a refused int", read_scalar(zero, sizeof zero), 34);
+    check("a refused int", (uint64_t)ion_map_get_int64(zero, sizeof zero, record, &value), 0);
+    check("nothing said of it", (uint64_t)value, 99);
+}
+
+static void check_double(void)
+{
+    static const struct {
+        uint8_t bytes[9];
+        size_t size;
+        uint64_t bits;
+    } floats[] = {
+        {{0x40}, 1, 0},
+        {{0x44, 0x3F, 0xC0, 0, 0}, 5, 0x3FF8000000000000u},                                      /* 1.5 in four bytes */
+        {{0x48, 0x3F, 0xF8, 0, 0, 0, 0, 0, 0}, 9, 0x3FF8000000000000u},
+        {{0x44, 0x80, 0, 0, 0}, 5, 0x8000000000000000u},                                         /* -0 */
+        {{0x48, 0x80, 0, 0, 0, 0, 0, 0, 0}, 9, 0x8000000000000000u},
+        {{0x48, 0x7F, 0xF8, 0, 0, 0, 0, 0, 1}, 9, 0x7FF8000000000001u},                          /* NaNs keep their bits */
+        {{0x48, 0xFF, 0xFF, 0xFF, 0xFF, 0xFF, 0xFF, 0xFF, 0xFF}, 9, 0xFFFFFFFFFFFFFFFFu},
+        {{0x48, 0xFF, 0xF0, 0, 0, 0, 0, 0, 0}, 9, 0xFFF0000000000000u}                           /* minus infinity */
+    };
+    static const uint8_t null[] = {0x4F}, seven[] = {0x21, 0x07};
+    size_t i;
+    double value = 0;
+    uint64_t bits;
+
+    for (i = 0; i < sizeof floats / sizeof *floats; i++) {
+        char what[40];
+
+        snprintf(what, sizeof what, "float %u as double", (unsigned)i);
+        check(what, read_scalar(floats[i].bytes, floats[i].size), 0);
+        check(what, (uint64_t)ion_map_get_double(record, &value), 1);
+        memcpy(&bits, &value, sizeof bits);
+        check(what, bits, floats[i].bits);
+    }
+    value = 1.5;
+    check("a null float", read_scalar(null, 1) + (uint64_t)ion_map_get_double(record, &value), 0);
+    check("an int is no float", read_scalar(seven, 2) + (uint64_t)ion_map_get_double(record, &value), 0);
+    check("nothing said of them", value == 1.5, 1);
+}
+
+static void check_time(const uint8_t *bytes, size_t size, const struct ion_map_time *should_be)
+{
+    struct ion_map_time is;
+
+    memset(&is, 0xAA, sizeof is);
+    check("time", ion_map_timestamp(bytes, size, 0, size, 0, LIMIT, record, sizeof record), 0);
+    check("time taken apart", (uint64_t)ion_map_get_time(record, &is), 1);
+    check("time's precision", (uint64_t)is.precision, (uint64_t)should_be->precision);
+    check("time's offset is known", (uint64_t)is.offset_known, (uint64_t)should_be->offset_known);
+    check("time's offset", (uint64_t)is.offset, (uint64_t)should_be->offset);
+    check("time's year", (uint64_t)is.year, (uint64_t)should_be->year);
+    check("time's month", (uint64_t)is.month, (uint64_t)should_be->month);
+    check("time's day", (uint64_t)is.day, (uint64_t)should_be->day);
+    check("time's hour", (uint64_t)is.hour, (uint64_t)should_be->hour);
+    check("time's minute", (uint64_t)is.minute, (uint64_t)should_be->minute);
+    check("time's second", (uint64_t)is.second, (uint64_t)should_be->second);
+    check("time's coefficient", is.coefficient, should_be->coefficient);
+    check("time's exponent", (uint64_t)is.exponent, (uint64_t)should_be->exponent);
+}
+
+static void check_times(void)
+{
+    static const uint8_t bytes[] = {0x00, 0xC0, 0x0F, 0xE8, 0x82, 0x9D, 0x96, 0x9E, 0x8F, 0xC3, 0x07}; /* 0: its length */
+    /* how many bytes there are of each precision, and the time with offset unknown; an hour has its minute */
+    static const struct {
+        size_t size;
+        struct ion_map_time time;
+    } times[] = {
+        {4, {ION_MAP_PRECISION_YEAR, 0, 0, 2024, 0, 0, 0, 0, 0, 0, 0}},
+        {5, {ION_MAP_PRECISION_MONTH, 0, 0, 2024, 2, 0, 0, 0, 0, 0, 0}},
+        {6, {ION_MAP_PRECISION_DAY, 0, 0, 2024, 2, 29, 0, 0, 0, 0, 0}},
+        {8, {ION_MAP_PRECISION_MINUTE, 0, 0, 2024, 2, 29, 22, 30, 0, 0, 0}},
+        {9, {ION_MAP_PRECISION_SECOND, 0, 0, 2024, 2, 29, 22, 30, 15, 0, 0}},
+        {11, {ION_MAP_PRECISION_FRACTION, 0, 0, 2024, 2, 29, 22, 30, 15, 7, -3}}
+    };
+    static const uint8_t behind[] = {0x68, 0x43, 0xA4, 0x0F, 0xE8, 0x82, 0x9D, 0x96, 0x9E};  /* at -07:00 */
+    static const uint8_t ahead[] = {0x68, 0x0B, 0x9F, 0x0F, 0xE8, 0x82, 0x9D, 0x96, 0x9E};   /* at +23:59 */
+    static const uint8_t at_zero[] = {0x67, 0x80, 0x0F, 0xE8, 0x82, 0x9D, 0x96, 0x9E};       /* at +00:00 */
+    static const uint8_t tens[] = {0x69, 0xC0, 0x0F, 0xE8, 0x82, 0x9D, 0x96, 0x9E, 0x80, 0x85}; /* no tens of a second */
+    static const struct ion_map_time at_minus_seven = {ION_MAP_PRECISION_MINUTE, 1, -420, 2024, 2, 29, 22, 30, 0, 0, 0};
+    static const struct ion_map_time at_most = {ION_MAP_PRECISION_MINUTE, 1, 1439, 2024, 2, 29, 22, 30, 0, 0, 0};
+    static const struct ion_map_time at_utc = {ION_MAP_PRECISION_MINUTE, 1, 0, 2024, 2, 29, 22, 30, 0, 0, 0};
+    static const struct ion_map_time no_tens = {ION_MAP_PRECISION_FRACTION, 0, 0, 2024, 2, 29, 22, 30, 0, 0, 5};
+    uint8_t value[sizeof bytes];
+    struct ion_map_time none;
+    size_t i;
+
+    memcpy(value, bytes, sizeof bytes);
+    for (i = 0; i < sizeof times / sizeof *times; i++) {
+        value[0] = (uint8_t)(0x60 + times[i].size - 1);
+        check_time(value, times[i].size, &times[i].time);
+    }
+    check_time(behind, sizeof behind, &at_minus_seven);
+    check_time(ahead, sizeof ahead, &at_most);
+    check_time(at_zero, sizeof at_zero, &at_utc);
+    check_time(tens, sizeof tens, &no_tens);
+    none.year = 99;
+    check("no time", ion_map_timestamp(map, LENGTH, 0, LENGTH, 13, LIMIT, record, sizeof record), 0);
+    check("no time", (uint64_t)ion_map_get_time(record, &none), 0);
+    check("nothing said of it", (uint64_t)none.year, 99);
+}
+
+static void check_names(void)
+{
+    static const char *const names[] = {"null", "bool", "int", "int", "float", "decimal", "timestamp", "symbol", "string",
+                                        "clob", "blob", "list", "sexp", "struct", "no type", "no type"};
+    static const uint8_t marker[] = {0xE0, 0x01, 0x00, 0xEA};
+    size_t i;
+
+    for (i = 0; i < sizeof names / sizeof *names; i++) {
+        check(names[i], strcmp(ion_map_type_name(i), names[i]) != 0, 0);
+    }
+    check("no type", strcmp(ion_map_type_name(UINT64_MAX), "no type") != 0, 0);
+    check("the system text", memcmp(ion_map_system_text(), ION_MAP_SYSTEM_TEXT, sizeof ION_MAP_SYSTEM_TEXT) != 0, 0);
+    check("the system text, lent", ion_map_text(map, LENGTH, ion_map_system_text(), ION_MAP_SYSTEM_TEXT_SIZE, 0, LENGTH, 0, 9,
+                                                LIMIT, record, sizeof record), 0);
+    check("the ninth text's length", ion_map_word(record, ION_MAP_AT_LENGTH), 24);
+    check("the marker's size", sizeof ION_MAP_MARKER - 1, ION_MAP_MARKER_SIZE);
+    check("the marker", memcmp(ION_MAP_MARKER, marker, sizeof marker) != 0, 0);
+}
+
+#ifndef ION_MAP_NO_OLD_NAMES
+/* The old names are what they were. */
+static void check_old_names(void)
+{
+    check("an old name", ION_MAP_WORD_LENGTH, 8);
+    check("an old name", ION_MAP_VALUE_FIELD_ID, 7);
+    check("an old name", ION_MAP_PACKED_SIZE, 3);
+    check("an old name", ION_MAP_CHECK_STRUCTS, 15);
+}
+#else
+static void check_old_names(void)
+{
+}
+#endif
+
 static void check_texts(void)
 {
     check("the text of 8", strcmp(ion_map_refusal_text(8), "a value that runs past the part") != 0, 0);
@@ -517,9 +807,18 @@ int main(void)
     check_limits();
     check_symbols();
     check_null();
+    check_own_part();
+    check_no_record();
     check_texts();
     check_packed();
     check_writes();
+    check_room();
+    check_wrapper_refusals();
+    check_int64();
+    check_double();
+    check_times();
+    check_names();
+    check_old_names();
     printf("%d checks, %d differ\n", checks, differing);
     return differing != 0;
 }

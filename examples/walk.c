@@ -1,4 +1,4 @@
-/* Walks a map and prints a line for each marker and value, as the program mapspans does.
+/* Walks a map and prints a line for each marker and value, as the program mapspans does, but of a map of any size.
 
      cc -std=c99 -O2 -I include examples/walk.c target/libion_map.a -o walk
      ./walk MAP
@@ -10,20 +10,15 @@
    The status is 0 where the map was walked to its end, 1 where it was refused, which the standard error then says in
    words, and 2 where it couldn't be read or what is printed couldn't be written. */
 
+#include "files.h"
 #include "ion_map.h"
+#include "ion_map_kit.h"
 
 #include <inttypes.h>
 #include <stdio.h>
-
-/* The program's status. */
-enum {
-    WALKED = 0,
-    REFUSED = 1,
-    FAILED = 2
-};
+#include <stdlib.h>
 
 enum {
-    MOST_INPUT = 65536,
     MOST_DEPTH = ION_MAP_DEFAULT_DEPTH /* the stream is depth 0; a container at this depth is printed and not entered */
 };
 
@@ -34,14 +29,6 @@ struct part {
     uint64_t kind;
 };
 
-static const char *const type_names[] = {
-    "null", "bool", "int", "int", "float", "decimal", "timestamp",
-    "symbol", "string", "clob", "blob", "list", "sexp", "struct"
-};
-
-/* One byte more than is taken, so that a longer input shows. */
-static uint8_t map[MOST_INPUT + 1];
-
 static void print_item(int depth, const char *name, uint64_t start, uint64_t descriptor, uint64_t body, uint64_t end)
 {
     printf("%d %s %" PRIu64 " %" PRIu64 " %" PRIu64 " %" PRIu64 "\n", depth, name, start, descriptor, body, end);
@@ -49,41 +36,40 @@ static void print_item(int depth, const char *name, uint64_t start, uint64_t des
 
 static void print_marker(int depth, const uint8_t *record)
 {
-    uint64_t start = ion_map_word(record, ION_MAP_MARKER_START);
+    uint64_t start = ion_map_word(record, ION_MAP_AT_MARKER_START);
 
-    print_item(depth, "marker", start, start, ion_map_word(record, ION_MAP_MARKER_BODY),
-               ion_map_word(record, ION_MAP_MARKER_END));
+    print_item(depth, "marker", start, start, ion_map_word(record, ION_MAP_AT_MARKER_BODY),
+               ion_map_word(record, ION_MAP_AT_MARKER_END));
 }
 
 static void print_value(int depth, const uint8_t *record)
 {
-    uint64_t byte = ion_map_word(record, ION_MAP_VALUE_BYTE);
+    uint64_t byte = ion_map_word(record, ION_MAP_AT_VALUE_BYTE);
 
-    print_item(depth, type_names[ion_map_type(byte)], ion_map_word(record, ION_MAP_VALUE_START),
-               ion_map_word(record, ION_MAP_VALUE_DESCRIPTOR), ion_map_word(record, ION_MAP_VALUE_BODY),
-               ion_map_word(record, ION_MAP_VALUE_END));
+    print_item(depth, ion_map_type_name(ion_map_type(byte)), ion_map_word(record, ION_MAP_AT_VALUE_START),
+               ion_map_word(record, ION_MAP_AT_VALUE_DESCRIPTOR), ion_map_word(record, ION_MAP_AT_VALUE_BODY),
+               ion_map_word(record, ION_MAP_AT_VALUE_END));
 }
 
 /* Returns the status of a map that was refused. */
 static int print_refused(uint64_t number, uint64_t position)
 {
     printf("refused %" PRIu64 " %" PRIu64 "\n", number, position);
-    fprintf(stderr, "walk: the map is refused at %" PRIu64 ": %s\n", position, ion_map_refusal_text(number));
-    return REFUSED;
+    return say_refusal("walk", "the map", number, position);
 }
 
 static struct part body_of(const uint8_t *record)
 {
     struct part body;
 
-    body.start = (size_t)ion_map_word(record, ION_MAP_VALUE_BODY);
-    body.end = (size_t)ion_map_word(record, ION_MAP_VALUE_END);
-    body.kind = ion_map_body_kind(ion_map_word(record, ION_MAP_VALUE_BYTE));
+    body.start = (size_t)ion_map_word(record, ION_MAP_AT_VALUE_BODY);
+    body.end = (size_t)ion_map_word(record, ION_MAP_AT_VALUE_END);
+    body.kind = ion_map_body_kind(ion_map_word(record, ION_MAP_AT_VALUE_BYTE));
     return body;
 }
 
 /* Returns the program's status. */
-static int walk(size_t length)
+static int walk(const uint8_t *map, size_t length)
 {
     struct part parts[MOST_DEPTH + 1]; /* the stream, and the body entered at each depth below it */
     uint8_t record[ION_MAP_RECORD_SIZE];
@@ -100,29 +86,29 @@ static int walk(size_t length)
                                         ION_MAP_DEFAULT_ANNOTATIONS, record, sizeof record);
 
         if (refused != 0) {
-            return print_refused(refused, ion_map_word(record, ION_MAP_REFUSED_POSITION));
+            return print_refused(refused, ion_map_word(record, ION_MAP_AT_REFUSED_POSITION));
         }
-        switch (ion_map_word(record, ION_MAP_WORD_KIND)) {
+        switch (ion_map_word(record, ION_MAP_AT_KIND)) {
         case ION_MAP_KIND_END:
             if (depth == 0) {
-                printf("end %" PRIu64 "\n", ion_map_word(record, ION_MAP_END_POSITION));
-                return WALKED;
+                printf("end %" PRIu64 "\n", ion_map_word(record, ION_MAP_AT_END_POSITION));
+                return GOOD;
             }
             position = part->end; /* the container ends where its body does */
             depth--;
             break;
         case ION_MAP_KIND_MARKER:
             print_marker(depth, record);
-            position = (size_t)ion_map_word(record, ION_MAP_MARKER_END);
+            position = (size_t)ion_map_word(record, ION_MAP_AT_MARKER_END);
             break;
         default: /* a value or a field */
             print_value(depth, record);
-            position = (size_t)ion_map_word(record, ION_MAP_VALUE_END);
-            if (!ion_map_is_container(ion_map_word(record, ION_MAP_VALUE_BYTE))) {
+            position = (size_t)ion_map_word(record, ION_MAP_AT_VALUE_END);
+            if (!ion_map_is_container(ion_map_word(record, ION_MAP_AT_VALUE_BYTE))) {
                 break;
             }
             if (depth == MOST_DEPTH) {
-                return print_refused(ION_MAP_REFUSAL_TOO_DEEP, ion_map_word(record, ION_MAP_VALUE_DESCRIPTOR));
+                return print_refused(ION_MAP_REFUSAL_TOO_DEEP, ion_map_word(record, ION_MAP_AT_VALUE_DESCRIPTOR));
             }
             depth++;
             parts[depth] = body_of(record);
@@ -134,7 +120,7 @@ static int walk(size_t length)
 
 int main(int argc, char **argv)
 {
-    FILE *input = stdin;
+    uint8_t *map;
     size_t length;
     int status;
 
@@ -142,23 +128,11 @@ int main(int argc, char **argv)
         fprintf(stderr, "usage: %s [MAP]\n", argv[0]);
         return FAILED;
     }
-    if (argc == 2) {
-        input = fopen(argv[1], "rb");
-        if (input == NULL) {
-            perror(argv[1]);
-            return FAILED;
-        }
-    }
-    length = fread(map, 1, sizeof map, input);
-    if (ferror(input)) {
-        perror(argc == 2 ? argv[1] : "standard input");
+    map = read_input(argc == 2 ? argv[1] : NULL, &length);
+    if (map == NULL) {
         return FAILED;
     }
-    status = length > MOST_INPUT ? print_refused(ION_MAP_REFUSAL_INPUT_TOO_LONG, MOST_INPUT) : walk(length);
-    /* What is printed lies in a buffer up to here: a full disk shows when it is written out. */
-    if (fflush(stdout) != 0 || ferror(stdout)) {
-        perror("standard output");
-        return FAILED;
-    }
-    return status;
+    status = walk(map, length);
+    free(map);
+    return flush_output() ? status : FAILED;
 }

@@ -11,6 +11,11 @@
    `map` must point to map_len bytes and `out` to out_len bytes, and what is written overlaps nothing else. A
    pointer whose length is 0 is not followed and may be null, as that of an empty std::vector is.
 
+   A refusal is a record too. Only where 51 is returned, because `out` is too short for a record, is nothing written:
+   after 51 no record is there to be read, and `out` holds what it held before.
+
+   ion_map_kit.h has small helpers over this header: an int as int64_t, a float as double, a timestamp's fields.
+
    The header is for C99 and C++, on machines whose size_t has 64 bits. */
 
 #ifndef ION_MAP_H
@@ -21,8 +26,8 @@
 
 /* The version, as text and as a number that grows with it: 10000 times the first number, 100 times the second, and the
    third. CHANGELOG.md says what a caller must change from one to the next. */
-#define ION_MAP_VERSION "0.3.1"
-#define ION_MAP_VERSION_NUMBER 301
+#define ION_MAP_VERSION "0.4.0"
+#define ION_MAP_VERSION_NUMBER 400
 
 /* Where the next line is an error, size_t has not 64 bits, and positions would be cut: the library is not for this target. */
 typedef char ion_map_needs_a_size_t_of_64_bits[sizeof(size_t) == 8 ? 1 : -1];
@@ -30,7 +35,8 @@ typedef char ion_map_needs_a_size_t_of_64_bits[sizeof(size_t) == 8 ? 1 : -1];
 /* ======================================= Part 1: the step ======================================= */
 
 /* A record is nine words of 64 bits, each with its least significant byte first on every machine.
-   ion_map_word reads one. A buffer may be longer; its further bytes are left as they are. */
+   ion_map_word reads one: the constants ION_MAP_AT_... say which word is what, and of all others those that end in
+   _SIZE or _WORDS are counts of bytes or words. A buffer may be longer; its further bytes are left as they are. */
 enum {
     ION_MAP_WORD_SIZE = 8,
     ION_MAP_RECORD_WORDS = 9,
@@ -59,8 +65,8 @@ enum {
 /* Word 0 of every record is which kind of record it is. Word 8 is a length: of a value's or a field's body, of a
    body that was stepped into, of a scalar's part; in records of other kinds it is 0. */
 enum {
-    ION_MAP_WORD_KIND = 0,
-    ION_MAP_WORD_LENGTH = 8
+    ION_MAP_AT_KIND = 0,
+    ION_MAP_AT_LENGTH = 8
 };
 
 enum {
@@ -74,35 +80,42 @@ enum {
 /* Words 1 to 7 of a value or a field. Its bytes lie in this order:
    field ID (in a struct), wrapper and annotations (if any), descriptor, length (if any), body. */
 enum {
-    ION_MAP_VALUE_BYTE = 1,        /* its own descriptor byte, never the wrapper's: type and whether it is null */
-    ION_MAP_VALUE_START = 2,       /* its first byte: of the field ID, else of the wrapper, else the descriptor */
-    ION_MAP_VALUE_ANNOTATIONS = 3, /* the annotations' first byte; they end at the descriptor, and where there
-                                      are none this word and the next are equal */
-    ION_MAP_VALUE_DESCRIPTOR = 4,  /* the descriptor's position */
-    ION_MAP_VALUE_BODY = 5,        /* the body's first byte */
-    ION_MAP_VALUE_END = 6,         /* where body and value end: the position for the next step */
-    ION_MAP_VALUE_FIELD_ID = 7     /* the field ID, a symbol's ID; 0 for a value */
+    ION_MAP_AT_VALUE_BYTE = 1,        /* its own descriptor byte, never the wrapper's: type and whether it is null */
+    ION_MAP_AT_VALUE_START = 2,       /* its first byte: of the field ID, else of the wrapper, else the descriptor */
+    ION_MAP_AT_VALUE_ANNOTATIONS = 3, /* the annotations' first byte; they end at the descriptor, and where there
+                                         are none this word and the next are equal */
+    ION_MAP_AT_VALUE_DESCRIPTOR = 4,  /* the descriptor's position */
+    ION_MAP_AT_VALUE_BODY = 5,        /* the body's first byte */
+    ION_MAP_AT_VALUE_END = 6,         /* where body and value end: the position for the next step */
+    ION_MAP_AT_VALUE_FIELD_ID = 7     /* the field ID, a symbol's ID; 0 for a value */
+};
+
+/* The four bytes of the marker of Ion 1.0, for a map that is written: the text's final zero is none of them. */
+#define ION_MAP_MARKER "\xE0\x01\x00\xEA"
+
+enum {
+    ION_MAP_MARKER_SIZE = 4
 };
 
 /* Words 1 to 7 of a marker. */
 enum {
-    ION_MAP_MARKER_BYTE = 1,  /* 224, which is E0 */
-    ION_MAP_MARKER_START = 2, /* its first byte */
-    ION_MAP_MARKER_MAJOR = 3, /* the version's two numbers, 1 and 0: a marker with others is refused */
-    ION_MAP_MARKER_MINOR = 4,
-    ION_MAP_MARKER_BODY = 5,  /* the same as its end: a marker has no body */
-    ION_MAP_MARKER_END = 6    /* where it ends: the position for the next step */
+    ION_MAP_AT_MARKER_BYTE = 1,  /* 224, which is E0 */
+    ION_MAP_AT_MARKER_START = 2, /* its first byte */
+    ION_MAP_AT_MARKER_MAJOR = 3, /* the version's two numbers, 1 and 0: a marker with others is refused */
+    ION_MAP_AT_MARKER_MINOR = 4,
+    ION_MAP_AT_MARKER_BODY = 5,  /* the same as its end: a marker has no body */
+    ION_MAP_AT_MARKER_END = 6    /* where it ends: the position for the next step */
 };
 
 /* Words 1 to 7 of an end: the position in word 2 is the part's end, the others are 0. */
 enum {
-    ION_MAP_END_POSITION = 2
+    ION_MAP_AT_END_POSITION = 2
 };
 
 /* Words 1 to 7 of a refusal: its number, its position in the map, and zeros. */
 enum {
-    ION_MAP_REFUSED_NUMBER = 1,
-    ION_MAP_REFUSED_POSITION = 2
+    ION_MAP_AT_REFUSED_NUMBER = 1,
+    ION_MAP_AT_REFUSED_POSITION = 2
 };
 
 /* Types: the high four bits of a value's descriptor byte, which ion_map_type gives. */
@@ -155,7 +168,7 @@ enum {
     /* The caller's own. */
     ION_MAP_REFUSAL_OUTSIDE = 50,              /* not start <= position <= end <= map_len, or a kind or form above 2 - 0 */
     ION_MAP_REFUSAL_RECORD_TOO_SHORT = 51,     /* out_len under ION_MAP_RECORD_SIZE (a check's: ION_MAP_CHECK_SIZE); nothing is written - 0 */
-    ION_MAP_REFUSAL_INPUT_TOO_LONG = 54,       /* a walk's: more bytes than it takes - the most that it takes */
+    ION_MAP_REFUSAL_INPUT_TOO_LONG = 54,       /* of the program mapspans: more bytes than it takes - the most that it takes */
     ION_MAP_REFUSAL_LIMIT_OUT_OF_RANGE = 68    /* a limit that isn't from its least to its most, after 51, before 50 - 0 */
 };
 
@@ -263,7 +276,7 @@ extern "C" {
      annotations   the most bytes of a value's annotations, ION_MAP_DEFAULT_ANNOTATIONS where the title sets no other
      out, out_len  the record, at least ION_MAP_RECORD_SIZE bytes
 
-   Returns 0, or the number of the refusal that the record holds. With 51 there is no record. Record kinds
+   Returns 0, or the number of the refusal that the record holds; with 51 there is none. Record kinds
    are END, MARKER, VALUE, FIELD and REFUSED.
 
    The same call gives the same answer: stepping on after an end says end, and a refused step stays refused.
@@ -298,53 +311,53 @@ enum {
     ION_MAP_CHECK_SIZE = ION_MAP_CHECK_WORDS * ION_MAP_WORD_SIZE
 };
 enum {
-    ION_MAP_CHECK_MARKERS = 1,
-    ION_MAP_CHECK_PADS = 2, /* one each at every depth, also where nothing follows them */
-    ION_MAP_CHECK_NULLS = 3, /* null.null; the null of another type counts as that type */
-    ION_MAP_CHECK_BOOLS = 4,
-    ION_MAP_CHECK_INTS = 5, /* of both signs */
-    ION_MAP_CHECK_FLOATS = 6,
-    ION_MAP_CHECK_DECIMALS = 7,
-    ION_MAP_CHECK_TIMESTAMPS = 8,
-    ION_MAP_CHECK_SYMBOLS = 9,
-    ION_MAP_CHECK_STRINGS = 10,
-    ION_MAP_CHECK_CLOBS = 11,
-    ION_MAP_CHECK_BLOBS = 12,
-    ION_MAP_CHECK_LISTS = 13,
-    ION_MAP_CHECK_SEXPS = 14,
-    ION_MAP_CHECK_STRUCTS = 15
+    ION_MAP_AT_CHECK_MARKERS = 1,
+    ION_MAP_AT_CHECK_PADS = 2, /* one each at every depth, also where nothing follows them */
+    ION_MAP_AT_CHECK_NULLS = 3, /* null.null; the null of another type counts as that type */
+    ION_MAP_AT_CHECK_BOOLS = 4,
+    ION_MAP_AT_CHECK_INTS = 5, /* of both signs */
+    ION_MAP_AT_CHECK_FLOATS = 6,
+    ION_MAP_AT_CHECK_DECIMALS = 7,
+    ION_MAP_AT_CHECK_TIMESTAMPS = 8,
+    ION_MAP_AT_CHECK_SYMBOLS = 9,
+    ION_MAP_AT_CHECK_STRINGS = 10,
+    ION_MAP_AT_CHECK_CLOBS = 11,
+    ION_MAP_AT_CHECK_BLOBS = 12,
+    ION_MAP_AT_CHECK_LISTS = 13,
+    ION_MAP_AT_CHECK_SEXPS = 14,
+    ION_MAP_AT_CHECK_STRUCTS = 15
 };
 
 /* Words of a bounded step that came back among pads; the others are 0. */
 enum {
-    ION_MAP_MORE_PADS = 1,    /* how many pads were passed: as many as were allowed */
-    ION_MAP_MORE_POSITION = 2 /* after the last of them, in a struct before the next field ID: the position for the
-                                 next step */
+    ION_MAP_AT_MORE_PADS = 1,    /* how many pads were passed: as many as were allowed */
+    ION_MAP_AT_MORE_POSITION = 2 /* after the last of them, in a struct before the next field ID: the position for the
+                                    next step */
 };
 
 /* Words of an annotation; words 1, 4, 5 and 7 are 0. */
 enum {
-    ION_MAP_ANNOTATION_START = 2, /* the first byte of the ID */
-    ION_MAP_ANNOTATION_ID = 3,    /* the ID, a symbol's */
-    ION_MAP_ANNOTATION_END = 6    /* where its bytes end: the position for the next call */
+    ION_MAP_AT_ANNOTATION_START = 2, /* the first byte of the ID */
+    ION_MAP_AT_ANNOTATION_ID = 3,    /* the ID, a symbol's */
+    ION_MAP_AT_ANNOTATION_END = 6    /* where its bytes end: the position for the next call */
 };
 
 /* Words of a body that was stepped into; words 3, 4 and 7 are 0. */
 enum {
-    ION_MAP_BODY_PART = 1,       /* ION_MAP_PART_SEQUENCE or ION_MAP_PART_STRUCT */
-    ION_MAP_BODY_DESCRIPTOR = 2, /* the container's descriptor's position */
-    ION_MAP_BODY_START = 5,      /* the body */
-    ION_MAP_BODY_END = 6
+    ION_MAP_AT_BODY_PART = 1,       /* ION_MAP_PART_SEQUENCE or ION_MAP_PART_STRUCT */
+    ION_MAP_AT_BODY_DESCRIPTOR = 2, /* the container's descriptor's position */
+    ION_MAP_AT_BODY_START = 5,      /* the body */
+    ION_MAP_AT_BODY_END = 6
 };
 
 /* Words of a scalar; word 7 is 0. */
 enum {
-    ION_MAP_SCALAR_BYTE = 1,       /* its descriptor byte, which has a null's type */
-    ION_MAP_SCALAR_DESCRIPTOR = 2, /* the descriptor's position */
-    ION_MAP_SCALAR_WHAT = 3,       /* what it is, ION_MAP_WHAT_... */
-    ION_MAP_SCALAR_NUMBER = 4,     /* of a bool, int, float or symbol, as said below; else 0 */
-    ION_MAP_SCALAR_START = 5,      /* its part of the map; start and end are equal where it has none */
-    ION_MAP_SCALAR_END = 6
+    ION_MAP_AT_SCALAR_BYTE = 1,       /* its descriptor byte, which has a null's type */
+    ION_MAP_AT_SCALAR_DESCRIPTOR = 2, /* the descriptor's position */
+    ION_MAP_AT_SCALAR_WHAT = 3,       /* what it is, ION_MAP_WHAT_... */
+    ION_MAP_AT_SCALAR_NUMBER = 4,     /* of a bool, int, float or symbol, as said below; else 0 */
+    ION_MAP_AT_SCALAR_START = 5,      /* its part of the map; start and end are equal where it has none */
+    ION_MAP_AT_SCALAR_END = 6
 };
 
 /* Word 3 of a scalar. */
@@ -372,39 +385,39 @@ enum {
 
 /* Words of a number; words 4 and 7 are 0. */
 enum {
-    ION_MAP_NUMBER_NEGATIVE = 1, /* 1 where the sign is negative, also of a negative zero */
-    ION_MAP_NUMBER_POSITION = 2, /* its first byte */
-    ION_MAP_NUMBER_VALUE = 3,    /* a VarUInt's value, a VarInt's magnitude, the low seven bits of an Int's
-                                    first byte */
-    ION_MAP_NUMBER_REST = 5,     /* the first of an Int's further bytes, which belong to its magnitude and go
-                                    to its end; of the other forms the end */
-    ION_MAP_NUMBER_END = 6       /* where it ends */
+    ION_MAP_AT_NUMBER_NEGATIVE = 1, /* 1 where the sign is negative, also of a negative zero */
+    ION_MAP_AT_NUMBER_POSITION = 2, /* its first byte */
+    ION_MAP_AT_NUMBER_VALUE = 3,    /* a VarUInt's value, a VarInt's magnitude, the low seven bits of an Int's
+                                       first byte */
+    ION_MAP_AT_NUMBER_REST = 5,     /* the first of an Int's further bytes, which belong to its magnitude and go
+                                       to its end; of the other forms the end */
+    ION_MAP_AT_NUMBER_END = 6       /* where it ends */
 };
 
 /* Words of a decimal: its coefficient times ten to its exponent. */
 enum {
-    ION_MAP_DECIMAL_NEGATIVE = 1,          /* 1 where the coefficient's sign is negative, also of a negative zero */
-    ION_MAP_DECIMAL_START = 2,             /* the body's first byte */
-    ION_MAP_DECIMAL_FIRST = 3,             /* the low seven bits of the coefficient's first byte */
-    ION_MAP_DECIMAL_EXPONENT_NEGATIVE = 4, /* 1 where the exponent is negative; an exponent of negative zero isn't */
-    ION_MAP_DECIMAL_REST = 5,              /* the coefficient's further bytes, which belong to its magnitude; where the
-                                              coefficient has no bytes they stand at the body's end */
-    ION_MAP_DECIMAL_END = 6,
-    ION_MAP_DECIMAL_EXPONENT = 7           /* the exponent's magnitude, below 2^62 */
+    ION_MAP_AT_DECIMAL_NEGATIVE = 1,          /* 1 where the coefficient's sign is negative, also of a negative zero */
+    ION_MAP_AT_DECIMAL_START = 2,             /* the body's first byte */
+    ION_MAP_AT_DECIMAL_FIRST = 3,             /* the low seven bits of the coefficient's first byte */
+    ION_MAP_AT_DECIMAL_EXPONENT_NEGATIVE = 4, /* 1 where the exponent is negative; an exponent of negative zero isn't */
+    ION_MAP_AT_DECIMAL_REST = 5,              /* the coefficient's further bytes, which belong to its magnitude; where the
+                                                 coefficient has no bytes they stand at the body's end */
+    ION_MAP_AT_DECIMAL_END = 6,
+    ION_MAP_AT_DECIMAL_EXPONENT = 7           /* the exponent's magnitude, below 2^62 */
 };
 
 /* Words of a timestamp; word 8 is 0. */
 enum {
-    ION_MAP_TIMESTAMP_PRECISION = 1,  /* how far it goes, ION_MAP_PRECISION_... */
-    ION_MAP_TIMESTAMP_DESCRIPTOR = 2, /* the descriptor's position */
-    ION_MAP_TIMESTAMP_OFFSET = 3,     /* by how many minutes local time is ahead of UTC, and 1440; 0 where that is
-                                         unknown */
-    ION_MAP_TIMESTAMP_FIELDS = 4,     /* in UTC: the year in the low 16 bits, then month, day, hour, minute and second
-                                         in 8 bits each; those that it doesn't have are 0 */
-    ION_MAP_TIMESTAMP_EXPONENT = 5,   /* the fraction of the second is the coefficient times ten to the exponent, and
-                                         below 1: the exponent's magnitude, below 2^62 */
-    ION_MAP_TIMESTAMP_EXPONENT_NEGATIVE = 6, /* 1 where it is negative; an exponent of negative zero isn't */
-    ION_MAP_TIMESTAMP_COEFFICIENT = 7
+    ION_MAP_AT_TIMESTAMP_PRECISION = 1,  /* how far it goes, ION_MAP_PRECISION_... */
+    ION_MAP_AT_TIMESTAMP_DESCRIPTOR = 2, /* the descriptor's position */
+    ION_MAP_AT_TIMESTAMP_OFFSET = 3,     /* by how many minutes local time is ahead of UTC, and 1440; 0 where that is
+                                            unknown */
+    ION_MAP_AT_TIMESTAMP_FIELDS = 4,     /* in UTC: the year in the low 16 bits, then month, day, hour, minute and second
+                                            in 8 bits each; those that it doesn't have are 0 */
+    ION_MAP_AT_TIMESTAMP_EXPONENT = 5,   /* the fraction of the second is the coefficient times ten to the exponent, and
+                                            below 1: the exponent's magnitude, below 2^62 */
+    ION_MAP_AT_TIMESTAMP_EXPONENT_NEGATIVE = 6, /* 1 where it is negative; an exponent of negative zero isn't */
+    ION_MAP_AT_TIMESTAMP_COEFFICIENT = 7
 };
 
 /* Word 1 of a timestamp. An hour stands with its minute. */
@@ -438,13 +451,14 @@ extern "C" {
 #endif
 
 /* All functions of part 2 that take `out` return 0 or the number of the refusal that the record holds; with
-   51 nothing is written. */
+   51 nothing is written, and no record is there to be read. */
 
 /* One step past `most` pads at most, so that it comes back soon also where a map holds nothing but pads. The other
    arguments are those of ion_map_step. It answers what ion_map_step does, or, where `most` pads were passed and another
    pad's descriptor comes next, MORE: go on from word POSITION. Of that next pad nothing is read yet but its descriptor,
-   in a struct its field ID before that. Repeated, it reaches the item, end or refusal of ion_map_step. Record kinds:
-   those of ion_map_step, and MORE. */
+   in a struct its field ID before that. Repeated, it reaches the item, end or refusal of ion_map_step. Only a number
+   without a last byte, such as zeros for a field ID, is read up to the part's end, however long that is, before it is
+   refused. Record kinds: those of ion_map_step, and MORE. */
 uint64_t ion_map_step_bounded(const uint8_t *map, size_t map_len, size_t start, size_t end, size_t position,
                               uint64_t kind, size_t most, size_t annotations, uint8_t *out, size_t out_len);
 
@@ -454,13 +468,15 @@ uint64_t ion_map_annotation(const uint8_t *map, size_t map_len, size_t start, si
                             uint8_t *out, size_t out_len);
 
 /* The body of the container at `position`, which is its descriptor's (word DESCRIPTOR of its record) or its
-   wrapper's. The part start..end is the one that handed it out. The value is looked at afresh, with the
+   wrapper's. The part start..end is the one that handed it out; of a value that was handed out words DESCRIPTOR and END
+   serve as well, with DESCRIPTOR for the position, and the answer is the same. The value is looked at afresh, with the
    refusals of the step, 1 also where `position` is the part's end and 22 also at a pad and at E0. Record kinds: BODY,
    REFUSED. */
 uint64_t ion_map_step_in(const uint8_t *map, size_t map_len, size_t start, size_t end, size_t position,
                          size_t annotations, uint8_t *out, size_t out_len);
 
-/* Reads the scalar at `position`; the arguments are those of ion_map_step_in. Record kinds: SCALAR, REFUSED. */
+/* Reads the scalar at `position`; the arguments are those of ion_map_step_in, DESCRIPTOR..END for the part too. Record
+   kinds: SCALAR, REFUSED. */
 uint64_t ion_map_scalar(const uint8_t *map, size_t map_len, size_t start, size_t end, size_t position,
                         size_t annotations, uint8_t *out, size_t out_len);
 
@@ -515,7 +531,7 @@ uint64_t ion_map_decimal(const uint8_t *map, size_t map_len, size_t start, size_
 /* ======================================= Part 3: texts of symbols ======================================= */
 
 /* The texts of the IDs 1 to 9, joined: the argument `system`, 84 bytes. A symbol table of the map gives the texts of
-   IDs from 10 up. */
+   IDs from 10 up. ion_map_system_text of ion_map_kit.h has them as bytes, without a cast. */
 #define ION_MAP_SYSTEM_TEXT \
     "$ion" "$ion_1_0" "$ion_symbol_table" "name" "version" "imports" "symbols" "max_id" "$ion_shared_symbol_table"
 
@@ -532,10 +548,10 @@ enum {
 
 /* Words of a text; words 2, 3 and 4 are 0. */
 enum {
-    ION_MAP_TEXT_WHERE = 1, /* where it lies, ION_MAP_TEXT_... */
-    ION_MAP_TEXT_START = 5, /* the text there, UTF-8 without a final zero; both are 0 where it is unknown */
-    ION_MAP_TEXT_END = 6,
-    ION_MAP_TEXT_ID = 7     /* the ID that was asked for */
+    ION_MAP_AT_TEXT_WHERE = 1, /* where it lies, ION_MAP_TEXT_... */
+    ION_MAP_AT_TEXT_START = 5, /* the text there, UTF-8 without a final zero; both are 0 where it is unknown */
+    ION_MAP_AT_TEXT_END = 6,
+    ION_MAP_AT_TEXT_ID = 7     /* the ID that was asked for */
 };
 
 /* Word 1 of a text. */
@@ -547,9 +563,9 @@ enum {
 
 /* Words of the list of symbols that rules; words 2, 3, 4 and 7 are 0. */
 enum {
-    ION_MAP_SYMBOLS_LISTED = 1, /* 1 where a list rules, else 0 */
-    ION_MAP_SYMBOLS_START = 5,  /* its body; both are 0 where none rules */
-    ION_MAP_SYMBOLS_END = 6
+    ION_MAP_AT_SYMBOLS_LISTED = 1, /* 1 where a list rules, else 0 */
+    ION_MAP_AT_SYMBOLS_START = 5,  /* its body; both are 0 where none rules */
+    ION_MAP_AT_SYMBOLS_END = 6
 };
 
 /* Refusals that only the functions of part 3 give, beside those of parts 1 and 2. */
@@ -599,7 +615,7 @@ enum {
 };
 
 enum {
-    ION_MAP_PACKED_SIZE = 3 /* how many bytes the packed map has */
+    ION_MAP_AT_PACKED_SIZE = 3 /* how many bytes the packed map has */
 };
 
 /* Refusals that only the functions of part 4 give, beside those of parts 1 and 2. */
@@ -616,10 +632,11 @@ extern "C" {
 uint64_t ion_map_packed_size(const uint8_t *map, size_t map_len, size_t annotations, size_t depth, uint8_t *out,
                              size_t out_len);
 
-/* Writes the packed map to `packed`, a buffer of packed_len bytes that overlaps neither the map nor the record. Its bytes
-   behind the packed map, and all of them where the call is refused, stay as they were. ion_map_check accepts the packed
-   map, with the same counts but no pads; packing it again changes nothing. Refused are, in this order: 51, 68, a map that
-   ion_map_check doesn't accept, and with 69 a buffer that is too short. Record kinds: PACKED, REFUSED. */
+/* Writes the packed map to `packed`, a buffer of packed_len bytes that overlaps neither the map nor the record. A packed
+   map is never longer than the map, so a buffer of map_len bytes always suffices. Its bytes behind the packed map, and
+   all of them where the call is refused, stay as they were. ion_map_check accepts the packed map, with the same counts
+   but no pads; packing it again changes nothing. Refused are, in this order: 51, 68, a map that ion_map_check doesn't
+   accept, and with 69 a buffer that is too short. Record kinds: PACKED, REFUSED. */
 uint64_t ion_map_pack(const uint8_t *map, size_t map_len, size_t annotations, size_t depth, uint8_t *packed,
                       size_t packed_len, uint8_t *out, size_t out_len);
 
@@ -636,7 +653,11 @@ uint64_t ion_map_pack(const uint8_t *map, size_t map_len, size_t annotations, si
 
    `to`, `out` and the lent bytes do not overlap. The order of the refusals: 51 (nothing is written to either
    buffer), 68, 50, 71, then the reader's own (any of parts 1 and 2: what ion_map_check would refuse of the thing as
-   a map; its position counts in the lent bytes then read, and is 0 for a descriptor that would be written), 70. */
+   a map; its position counts in the lent bytes then read, and is 0 for a descriptor that would be written), 70.
+
+   The lent bytes then read are a container's or a scalar's body; a wrapper has two of them, its annotations and its
+   value. Of the reader's own refusals of a wrapper 3 and 20 can lie in either, and number and position don't say in
+   which; all others lie in the value, but for 23, 25, 26 and 29 at 0, which are of the wrapper that would be written. */
 
 /* Kind of the record of part 5, beside ION_MAP_KIND_REFUSED: word 3 is the length; the others are 0. */
 enum {
@@ -644,7 +665,19 @@ enum {
 };
 
 enum {
-    ION_MAP_WRITTEN_LENGTH = 3
+    ION_MAP_AT_WRITTEN_LENGTH = 3
+};
+
+/* The most bytes that a written thing has. An int, a scalar or a container has, beside the magnitude, the body or what
+   is in it, at most ION_MAP_MOST_HEAD_SIZE; a wrapper, beside its annotations and its value, ION_MAP_MOST_WRAPPER_SIZE.
+   A null and a bool have one byte, a float and a symbol at most ION_MAP_MOST_NUMBER_SIZE, a pad its size. A field ID,
+   or an annotation, is a VarUInt, of at most ION_MAP_MOST_VAR_UINT_SIZE. So where there is that much room nothing is
+   refused with 70. */
+enum {
+    ION_MAP_MOST_HEAD_SIZE = 10,    /* a descriptor, and a length of up to nine bytes */
+    ION_MAP_MOST_WRAPPER_SIZE = 13, /* the same, and the annotations' length, of up to three */
+    ION_MAP_MOST_NUMBER_SIZE = 9,   /* a descriptor, and eight bytes */
+    ION_MAP_MOST_VAR_UINT_SIZE = 9
 };
 
 /* Refusals that only the functions of part 5 give. */
@@ -688,5 +721,90 @@ uint64_t ion_map_write_wrapper(const uint8_t *annotation_bytes, size_t annotatio
 #endif
 
 /* ======================================= End of part 5 ======================================= */
+
+/* ======================================= Old names ======================================= */
+
+/* Deprecated: what the indexes of words were called up to version 0.3. Version 0.5 has them no more; where
+   ION_MAP_NO_OLD_NAMES is defined this one hasn't either. */
+#ifndef ION_MAP_NO_OLD_NAMES
+enum {
+    ION_MAP_WORD_KIND = ION_MAP_AT_KIND,
+    ION_MAP_WORD_LENGTH = ION_MAP_AT_LENGTH,
+    ION_MAP_VALUE_BYTE = ION_MAP_AT_VALUE_BYTE,
+    ION_MAP_VALUE_START = ION_MAP_AT_VALUE_START,
+    ION_MAP_VALUE_ANNOTATIONS = ION_MAP_AT_VALUE_ANNOTATIONS,
+    ION_MAP_VALUE_DESCRIPTOR = ION_MAP_AT_VALUE_DESCRIPTOR,
+    ION_MAP_VALUE_BODY = ION_MAP_AT_VALUE_BODY,
+    ION_MAP_VALUE_END = ION_MAP_AT_VALUE_END,
+    ION_MAP_VALUE_FIELD_ID = ION_MAP_AT_VALUE_FIELD_ID,
+    ION_MAP_MARKER_BYTE = ION_MAP_AT_MARKER_BYTE,
+    ION_MAP_MARKER_START = ION_MAP_AT_MARKER_START,
+    ION_MAP_MARKER_MAJOR = ION_MAP_AT_MARKER_MAJOR,
+    ION_MAP_MARKER_MINOR = ION_MAP_AT_MARKER_MINOR,
+    ION_MAP_MARKER_BODY = ION_MAP_AT_MARKER_BODY,
+    ION_MAP_MARKER_END = ION_MAP_AT_MARKER_END,
+    ION_MAP_END_POSITION = ION_MAP_AT_END_POSITION,
+    ION_MAP_REFUSED_NUMBER = ION_MAP_AT_REFUSED_NUMBER,
+    ION_MAP_REFUSED_POSITION = ION_MAP_AT_REFUSED_POSITION,
+    ION_MAP_CHECK_MARKERS = ION_MAP_AT_CHECK_MARKERS,
+    ION_MAP_CHECK_PADS = ION_MAP_AT_CHECK_PADS,
+    ION_MAP_CHECK_NULLS = ION_MAP_AT_CHECK_NULLS,
+    ION_MAP_CHECK_BOOLS = ION_MAP_AT_CHECK_BOOLS,
+    ION_MAP_CHECK_INTS = ION_MAP_AT_CHECK_INTS,
+    ION_MAP_CHECK_FLOATS = ION_MAP_AT_CHECK_FLOATS,
+    ION_MAP_CHECK_DECIMALS = ION_MAP_AT_CHECK_DECIMALS,
+    ION_MAP_CHECK_TIMESTAMPS = ION_MAP_AT_CHECK_TIMESTAMPS,
+    ION_MAP_CHECK_SYMBOLS = ION_MAP_AT_CHECK_SYMBOLS,
+    ION_MAP_CHECK_STRINGS = ION_MAP_AT_CHECK_STRINGS,
+    ION_MAP_CHECK_CLOBS = ION_MAP_AT_CHECK_CLOBS,
+    ION_MAP_CHECK_BLOBS = ION_MAP_AT_CHECK_BLOBS,
+    ION_MAP_CHECK_LISTS = ION_MAP_AT_CHECK_LISTS,
+    ION_MAP_CHECK_SEXPS = ION_MAP_AT_CHECK_SEXPS,
+    ION_MAP_CHECK_STRUCTS = ION_MAP_AT_CHECK_STRUCTS,
+    ION_MAP_MORE_PADS = ION_MAP_AT_MORE_PADS,
+    ION_MAP_MORE_POSITION = ION_MAP_AT_MORE_POSITION,
+    ION_MAP_ANNOTATION_START = ION_MAP_AT_ANNOTATION_START,
+    ION_MAP_ANNOTATION_ID = ION_MAP_AT_ANNOTATION_ID,
+    ION_MAP_ANNOTATION_END = ION_MAP_AT_ANNOTATION_END,
+    ION_MAP_BODY_PART = ION_MAP_AT_BODY_PART,
+    ION_MAP_BODY_DESCRIPTOR = ION_MAP_AT_BODY_DESCRIPTOR,
+    ION_MAP_BODY_START = ION_MAP_AT_BODY_START,
+    ION_MAP_BODY_END = ION_MAP_AT_BODY_END,
+    ION_MAP_SCALAR_BYTE = ION_MAP_AT_SCALAR_BYTE,
+    ION_MAP_SCALAR_DESCRIPTOR = ION_MAP_AT_SCALAR_DESCRIPTOR,
+    ION_MAP_SCALAR_WHAT = ION_MAP_AT_SCALAR_WHAT,
+    ION_MAP_SCALAR_NUMBER = ION_MAP_AT_SCALAR_NUMBER,
+    ION_MAP_SCALAR_START = ION_MAP_AT_SCALAR_START,
+    ION_MAP_SCALAR_END = ION_MAP_AT_SCALAR_END,
+    ION_MAP_NUMBER_NEGATIVE = ION_MAP_AT_NUMBER_NEGATIVE,
+    ION_MAP_NUMBER_POSITION = ION_MAP_AT_NUMBER_POSITION,
+    ION_MAP_NUMBER_VALUE = ION_MAP_AT_NUMBER_VALUE,
+    ION_MAP_NUMBER_REST = ION_MAP_AT_NUMBER_REST,
+    ION_MAP_NUMBER_END = ION_MAP_AT_NUMBER_END,
+    ION_MAP_DECIMAL_NEGATIVE = ION_MAP_AT_DECIMAL_NEGATIVE,
+    ION_MAP_DECIMAL_START = ION_MAP_AT_DECIMAL_START,
+    ION_MAP_DECIMAL_FIRST = ION_MAP_AT_DECIMAL_FIRST,
+    ION_MAP_DECIMAL_EXPONENT_NEGATIVE = ION_MAP_AT_DECIMAL_EXPONENT_NEGATIVE,
+    ION_MAP_DECIMAL_REST = ION_MAP_AT_DECIMAL_REST,
+    ION_MAP_DECIMAL_END = ION_MAP_AT_DECIMAL_END,
+    ION_MAP_DECIMAL_EXPONENT = ION_MAP_AT_DECIMAL_EXPONENT,
+    ION_MAP_TIMESTAMP_PRECISION = ION_MAP_AT_TIMESTAMP_PRECISION,
+    ION_MAP_TIMESTAMP_DESCRIPTOR = ION_MAP_AT_TIMESTAMP_DESCRIPTOR,
+    ION_MAP_TIMESTAMP_OFFSET = ION_MAP_AT_TIMESTAMP_OFFSET,
+    ION_MAP_TIMESTAMP_FIELDS = ION_MAP_AT_TIMESTAMP_FIELDS,
+    ION_MAP_TIMESTAMP_EXPONENT = ION_MAP_AT_TIMESTAMP_EXPONENT,
+    ION_MAP_TIMESTAMP_EXPONENT_NEGATIVE = ION_MAP_AT_TIMESTAMP_EXPONENT_NEGATIVE,
+    ION_MAP_TIMESTAMP_COEFFICIENT = ION_MAP_AT_TIMESTAMP_COEFFICIENT,
+    ION_MAP_TEXT_WHERE = ION_MAP_AT_TEXT_WHERE,
+    ION_MAP_TEXT_START = ION_MAP_AT_TEXT_START,
+    ION_MAP_TEXT_END = ION_MAP_AT_TEXT_END,
+    ION_MAP_TEXT_ID = ION_MAP_AT_TEXT_ID,
+    ION_MAP_SYMBOLS_LISTED = ION_MAP_AT_SYMBOLS_LISTED,
+    ION_MAP_SYMBOLS_START = ION_MAP_AT_SYMBOLS_START,
+    ION_MAP_SYMBOLS_END = ION_MAP_AT_SYMBOLS_END,
+    ION_MAP_PACKED_SIZE = ION_MAP_AT_PACKED_SIZE,
+    ION_MAP_WRITTEN_LENGTH = ION_MAP_AT_WRITTEN_LENGTH
+};
+#endif
 
 #endif

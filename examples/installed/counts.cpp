@@ -49,11 +49,11 @@ int main(int argc, char **argv)
     uint64_t refused = ion_map_check(map.data(), map.size(), ION_MAP_DEFAULT_ANNOTATIONS, ION_MAP_DEFAULT_DEPTH,
                                      record.data(), record.size());
     if (refused != 0) {
-        std::cerr << argv[1] << ": refused at " << ion_map_word(record.data(), ION_MAP_REFUSED_POSITION) << ": "
+        std::cerr << argv[1] << ": refused at " << ion_map_word(record.data(), ION_MAP_AT_REFUSED_POSITION) << ": "
                   << ion_map_refusal_text(refused) << "\n";
         return 1;
     }
-    for (size_t i = ION_MAP_CHECK_MARKERS; i < ION_MAP_CHECK_WORDS; i++) {
+    for (size_t i = ION_MAP_AT_CHECK_MARKERS; i < ION_MAP_CHECK_WORDS; i++) {
         uint64_t count = ion_map_word(record.data(), i);
         if (count != 0) {
             std::cout << count << " " << names[i] << "\n";

@@ -41,24 +41,38 @@ pub struct Counts {
 }
 
 impl Counts {
-    /// How many values there are.
+    /// How many values there are; of counts that no map has, and that are together 2^64 or more, `u64::MAX`.
     pub fn values(&self) -> u64 {
-        let scalars = self.nulls + self.bools + self.ints + self.floats + self.decimals + self.timestamps;
-        let texts = self.symbols + self.strings + self.clobs + self.blobs;
-        scalars + texts + self.lists + self.sexps + self.structs
+        let scalars = [
+            self.nulls,
+            self.bools,
+            self.ints,
+            self.floats,
+            self.decimals,
+            self.timestamps,
+        ];
+        let texts = [self.symbols, self.strings, self.clobs, self.blobs];
+        let containers = [self.lists, self.sexps, self.structs];
+        let all = scalars.iter().chain(&texts).chain(&containers);
+        all.fold(0, |values: u64, count| values.saturating_add(*count))
     }
 }
 
 /// Checks a whole map before anything is made of it: every value's span, then each of its annotation IDs, then its
-/// scalar, a decimal's and a timestamp's body included, or what is in it. Where it is accepted, none of the readings of what is
-/// in the map is refused.
+/// scalar, a decimal's and a timestamp's body included, or what is in it. Where it is accepted, no step, stepping in,
+/// annotation, scalar, timestamp or decimal of what is in the map is refused. Texts of symbols may be: what a symbol table
+/// says is not looked at.
 ///
 /// ```
-/// use ion_map::{check, Refusal};
+/// use ion_map::{check, symbol_text, Refusal};
 ///
 /// let counts = check(&[0xE0, 0x01, 0x00, 0xEA, 0xB3, 0x21, 0x07, 0x00])?;
 /// assert_eq!((counts.markers, counts.lists, counts.ints, counts.pads), (1, 1, 1, 1));
 /// assert_eq!(check(&[0x12]).unwrap_err().number, Refusal::BAD_BOOL);
+///
+/// let map = [0xE5, 0x81, 0x83, 0xD2, 0x86, 0x20, 0x71, 0x0A]; // a symbol table with imports, and the symbol 10
+/// assert_eq!(check(&map)?.symbols, 1);
+/// assert_eq!(symbol_text(&map, 6, 10).unwrap_err().number, Refusal::HAS_IMPORTS);
 /// # Ok::<(), Refusal>(())
 /// ```
 pub fn check(map: &[u8]) -> Result<Counts, Refusal> {

@@ -11,6 +11,8 @@ mod answer;
 mod bounded;
 mod check;
 mod decimal;
+#[cfg(feature = "alloc")]
+mod digits;
 mod item;
 mod limits;
 mod number;
@@ -45,4 +47,4 @@ pub use symbols::{symbol_text, Symbols, SYSTEM_TEXT};
 pub use timestamp::{timestamp, Precision, Timestamp, TimestampOr};
 pub use walk::{walk, walked, Walk};
 #[cfg(feature = "alloc")]
-pub use writing::{MapWriter, Thing};
+pub use writing::{MapWriter, SequenceWriter, StructWriter, Thing, ValueWriter};

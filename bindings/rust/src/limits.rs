@@ -44,7 +44,7 @@ pub struct Limits {
 }
 
 impl Limits {
-    /// The usual limits, which ion-rust has too.
+    /// The usual limits. That of annotations is ion-rust's too, which has none of depth.
     pub const DEFAULT: Limits = Limits {
         annotations: 255,
         depth: 32,

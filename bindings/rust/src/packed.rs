@@ -5,7 +5,7 @@ use crate::limits::Limits;
 use crate::raw;
 use crate::refusal::Refusal;
 #[cfg(feature = "alloc")]
-use alloc::{vec, vec::Vec};
+use alloc::vec::Vec;
 
 /// How many bytes a map has once its pads are gone, a struct's with their field IDs, and its lengths are in their shortest
 /// form, those of wrappers included. A map that [`check`](crate::check) doesn't accept is refused as there.
@@ -31,7 +31,8 @@ pub(crate) fn packed_size_by(limits: Limits, map: &[u8]) -> Result<usize, Refusa
 
 /// The packed map: without pads, a struct's with their field IDs, and with each length in its shortest form. Field IDs,
 /// annotations and the bodies of scalars stay byte for byte. [`check`](crate::check) accepts it, with the same counts but no
-/// pads, and packing it again changes nothing. With the feature `alloc`.
+/// pads, and packing it again changes nothing. It takes memory of the map's length; where that isn't there it is refused
+/// with [`Refusal::NO_MEMORY`]. With the feature `alloc`.
 ///
 /// ```
 /// use ion_map::{pack, Refusal};
@@ -64,7 +65,12 @@ pub fn pack_into(map: &[u8], packed: &mut [u8]) -> Result<usize, Refusal> {
 // A packed map is no longer than the map, so that a buffer of its length always does.
 #[cfg(feature = "alloc")]
 pub(crate) fn pack_by(limits: Limits, map: &[u8]) -> Result<Vec<u8>, Refusal> {
-    let mut packed = vec![0; map.len()];
+    let mut packed = Vec::new();
+    packed.try_reserve_exact(map.len()).map_err(|_| Refusal {
+        number: Refusal::NO_MEMORY,
+        position: 0,
+    })?;
+    packed.resize(map.len(), 0);
     let size = pack_into_by(limits, map, &mut packed)?;
     packed.truncate(size);
     Ok(packed)

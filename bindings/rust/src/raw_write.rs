@@ -3,20 +3,8 @@
 #![allow(unsafe_code)]
 
 extern "C" {
-    fn ion_map_write_null(
-        code: usize,
-        to: *mut u8,
-        to_len: usize,
-        out: *mut u8,
-        out_len: usize,
-    ) -> u64;
-    fn ion_map_write_bool(
-        value: u64,
-        to: *mut u8,
-        to_len: usize,
-        out: *mut u8,
-        out_len: usize,
-    ) -> u64;
+    fn ion_map_write_null(code: usize, to: *mut u8, to_len: usize, out: *mut u8, out_len: usize) -> u64;
+    fn ion_map_write_bool(value: u64, to: *mut u8, to_len: usize, out: *mut u8, out_len: usize) -> u64;
     fn ion_map_write_int(
         magnitude: *const u8,
         magnitude_len: usize,
@@ -26,27 +14,9 @@ extern "C" {
         out: *mut u8,
         out_len: usize,
     ) -> u64;
-    fn ion_map_write_float(
-        bits: u64,
-        to: *mut u8,
-        to_len: usize,
-        out: *mut u8,
-        out_len: usize,
-    ) -> u64;
-    fn ion_map_write_symbol(
-        id: u64,
-        to: *mut u8,
-        to_len: usize,
-        out: *mut u8,
-        out_len: usize,
-    ) -> u64;
-    fn ion_map_write_pad(
-        size: usize,
-        to: *mut u8,
-        to_len: usize,
-        out: *mut u8,
-        out_len: usize,
-    ) -> u64;
+    fn ion_map_write_float(bits: u64, to: *mut u8, to_len: usize, out: *mut u8, out_len: usize) -> u64;
+    fn ion_map_write_symbol(id: u64, to: *mut u8, to_len: usize, out: *mut u8, out_len: usize) -> u64;
+    fn ion_map_write_pad(size: usize, to: *mut u8, to_len: usize, out: *mut u8, out_len: usize) -> u64;
     fn ion_map_write_scalar(
         code: usize,
         body: *const u8,
@@ -84,29 +54,13 @@ extern "C" {
 /// A null of a type, by its type code.
 pub fn null(code: usize, to: &mut [u8], out: &mut [u8]) -> u64 {
     // SAFETY: each pointer has as many bytes as its length says, and slices that are lent mutably overlap nothing else.
-    unsafe {
-        ion_map_write_null(
-            code,
-            to.as_mut_ptr(),
-            to.len(),
-            out.as_mut_ptr(),
-            out.len(),
-        )
-    }
+    unsafe { ion_map_write_null(code, to.as_mut_ptr(), to.len(), out.as_mut_ptr(), out.len()) }
 }
 
 /// A bool: 0 or 1.
 pub fn bool(value: u64, to: &mut [u8], out: &mut [u8]) -> u64 {
     // SAFETY: each pointer has as many bytes as its length says, and slices that are lent mutably overlap nothing else.
-    unsafe {
-        ion_map_write_bool(
-            value,
-            to.as_mut_ptr(),
-            to.len(),
-            out.as_mut_ptr(),
-            out.len(),
-        )
-    }
+    unsafe { ion_map_write_bool(value, to.as_mut_ptr(), to.len(), out.as_mut_ptr(), out.len()) }
 }
 
 /// An int by its magnitude, and 1 where it is negative.
@@ -128,43 +82,19 @@ pub fn int(magnitude: &[u8], negative: u64, to: &mut [u8], out: &mut [u8]) -> u6
 /// The float with these bits.
 pub fn float(bits: u64, to: &mut [u8], out: &mut [u8]) -> u64 {
     // SAFETY: each pointer has as many bytes as its length says, and slices that are lent mutably overlap nothing else.
-    unsafe {
-        ion_map_write_float(
-            bits,
-            to.as_mut_ptr(),
-            to.len(),
-            out.as_mut_ptr(),
-            out.len(),
-        )
-    }
+    unsafe { ion_map_write_float(bits, to.as_mut_ptr(), to.len(), out.as_mut_ptr(), out.len()) }
 }
 
 /// A symbol by its ID.
 pub fn symbol(id: u64, to: &mut [u8], out: &mut [u8]) -> u64 {
     // SAFETY: each pointer has as many bytes as its length says, and slices that are lent mutably overlap nothing else.
-    unsafe {
-        ion_map_write_symbol(
-            id,
-            to.as_mut_ptr(),
-            to.len(),
-            out.as_mut_ptr(),
-            out.len(),
-        )
-    }
+    unsafe { ion_map_write_symbol(id, to.as_mut_ptr(), to.len(), out.as_mut_ptr(), out.len()) }
 }
 
 /// A pad of a total size.
 pub fn pad(size: usize, to: &mut [u8], out: &mut [u8]) -> u64 {
     // SAFETY: each pointer has as many bytes as its length says, and slices that are lent mutably overlap nothing else.
-    unsafe {
-        ion_map_write_pad(
-            size,
-            to.as_mut_ptr(),
-            to.len(),
-            out.as_mut_ptr(),
-            out.len(),
-        )
-    }
+    unsafe { ion_map_write_pad(size, to.as_mut_ptr(), to.len(), out.as_mut_ptr(), out.len()) }
 }
 
 /// A decimal, a timestamp, a string, a clob or a blob, by its type code and its representation.
@@ -202,7 +132,14 @@ pub fn container(code: usize, body: &[u8], annotations: usize, depth: usize, to:
 }
 
 /// A wrapper of annotation bytes around a value.
-pub fn wrapper(annotation_bytes: &[u8], value: &[u8], annotations: usize, depth: usize, to: &mut [u8], out: &mut [u8]) -> u64 {
+pub fn wrapper(
+    annotation_bytes: &[u8],
+    value: &[u8],
+    annotations: usize,
+    depth: usize,
+    to: &mut [u8],
+    out: &mut [u8],
+) -> u64 {
     // SAFETY: each pointer has as many bytes as its length says, and slices that are lent mutably overlap nothing else.
     unsafe {
         ion_map_write_wrapper(

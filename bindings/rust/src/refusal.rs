@@ -90,6 +90,7 @@ refusals! {
     NO_SUCH_LENGTH = 71, "a pad of size 0, or a length that 9 VarUInt bytes cannot tell";
     // end of include/texts
 
+    NO_MEMORY = u64::MAX - 1, "memory that isn't there, for what is to be written or packed";
     UNKNOWN_ANSWER = u64::MAX, "an answer that this crate doesn't know: the archive is another one than it was made for";
 }
 

@@ -30,6 +30,17 @@ pub const SYSTEM_TEXT: &str = "$ion$ion_1_0$ion_symbol_tablenameversionimportssy
 /// assert_eq!(Symbols::at(&map, 5).unwrap_err().number, Refusal::OUTSIDE); // no item begins there
 /// # Ok::<(), Refusal>(())
 /// ```
+///
+/// # All names of a map
+///
+/// [`Symbols::at`] steps through the map up to the place, and [`Symbols::text`] through the list up to the ID's entry: each
+/// takes time that grows with what it steps through, so that to ask for each item or each name of a map takes the
+/// square of its length. The map may come from anybody. Where all names are wanted, one walk keeps the texts of the table that
+/// rules and takes time that grows with the map's length alone:
+///
+/// ```
+#[doc = include_str!("../examples/names.rs")]
+/// ```
 #[derive(Clone, Debug, PartialEq, Eq, Hash)]
 pub struct Symbols<'a> {
     map: &'a [u8],
@@ -39,7 +50,8 @@ pub struct Symbols<'a> {
 
 impl<'a> Symbols<'a> {
     /// The symbols at `place`, which is where one of the map's top-level items begins, or the map's end. The map is
-    /// stepped up to there, and the table that rules, once; refusals met on the way are given.
+    /// stepped up to there, and the table that rules, once, in time that grows with how many items these are; refusals met
+    /// on the way are given.
     pub fn at(map: &'a [u8], place: usize) -> Result<Symbols<'a>, Refusal> {
         Symbols::at_by(Limits::DEFAULT, map, place)
     }
@@ -67,8 +79,8 @@ impl<'a> Symbols<'a> {
         self.list.clone()
     }
 
-    /// The text of an ID, or nothing where it is unknown. The list is stepped up to the ID's entry; a refusal met on
-    /// the way is given, and so is bad UTF-8 in the text itself.
+    /// The text of an ID, or nothing where it is unknown. The list is stepped up to the ID's entry, in time that grows with
+    /// how many entries come before it; a refusal met on the way is given, and so is bad UTF-8 in the text itself.
     pub fn text(&self, id: u64) -> Result<Option<&'a str>, Refusal> {
         let system = SYSTEM_TEXT.as_bytes();
         let list = self.list.clone().unwrap_or(0..0);
@@ -78,7 +90,7 @@ impl<'a> Symbols<'a> {
     }
 }
 
-/// The text of a symbol's ID at a place of a map: [`Symbols::at`] and [`Symbols::text`] in one call.
+/// The text of a symbol's ID at a place of a map: [`Symbols::at`] and [`Symbols::text`] in one call, in the time of both.
 ///
 /// ```
 /// let map = [0xE7, 0x81, 0x83, 0xD4, 0x87, 0xB2, 0x81, 0x61]; // a symbol table with the text "a"

@@ -36,6 +36,7 @@ pub enum Precision {
 /// let map = [0x6B, 0x43, 0xA4, 0x0F, 0xD0, 0x81, 0x81, 0x82, 0x80, 0x80, 0xC1, 0x05];
 /// let TimestampOr::Timestamp(bake) = timestamp(&map, Part::stream(&map), 0)? else { panic!() };
 /// assert_eq!((bake.year, bake.hour, bake.offset), (2000, 2, Some(-420)));
+/// # #[cfg(feature = "alloc")]
 /// assert_eq!(bake.to_rfc3339().unwrap(), "1999-12-31T19:00:00.5-07:00");
 /// # Ok::<(), ion_map::Refusal>(())
 /// ```
@@ -70,8 +71,9 @@ const MOST_PLACES: u64 = 1000;
 #[cfg(feature = "alloc")]
 impl Timestamp {
     /// RFC 3339's text, in local time: a date and time where there is a second, a date where a day is the last field. An
-    /// unknown offset is `-00:00`. There is no such text of any other precision, of a local year outside 0 to 9999, and
-    /// of a fraction of more than a thousand digits. With the feature `alloc`.
+    /// unknown offset is `-00:00`. There is no such text of any other precision, of a local year outside 0 to 9999, of a
+    /// fraction of more than a thousand digits, and where a field is out of its range, which what [`timestamp`] reads never
+    /// is. With the feature `alloc`.
     ///
     /// ```
     /// use ion_map::{Precision, Timestamp};
@@ -93,8 +95,12 @@ impl Timestamp {
     /// assert_eq!(second.to_rfc3339().as_deref(), Some("2004-03-01T00:00:07+01:00"));
     /// let unknown = Timestamp { offset: None, ..second };
     /// assert_eq!(unknown.to_rfc3339().as_deref(), Some("2004-02-29T23:00:07-00:00"));
+    /// assert_eq!(Timestamp { year: 2003, ..day }.to_rfc3339(), None); // which has no such day
     /// ```
     pub fn to_rfc3339(&self) -> Option<String> {
+        if !self.in_range() {
+            return None;
+        }
         let (year, month, day, minutes) = self.local();
         if !(0..=9999).contains(&year) {
             return None;
@@ -109,6 +115,29 @@ impl Timestamp {
             }
             _ => None,
         }
+    }
+
+    /// Whether each field is in its range: anything may have been put into them.
+    fn in_range(&self) -> bool {
+        (1..=9999).contains(&self.year)
+            && (1..=12).contains(&self.month)
+            && (1..=days_in(i32::from(self.year), self.month)).contains(&self.day)
+            && self.hour < 24
+            && self.minute < 60
+            && self.second < 60
+            && (-1439..=1439).contains(&self.offset.unwrap_or(0))
+            && self.below_1()
+    }
+
+    /// Whether the fraction is below 1.
+    fn below_1(&self) -> bool {
+        if self.exponent >= 0 {
+            return self.coefficient == 0;
+        }
+        let places = u32::try_from(self.exponent.unsigned_abs()).ok();
+        // From twenty places on any coefficient is.
+        let one = places.and_then(|places| 10u64.checked_pow(places));
+        one.map_or(true, |one| self.coefficient < one)
     }
 
     /// Local year, month and day, and the minutes of that day.
@@ -129,8 +158,8 @@ impl Timestamp {
 
     /// The digits behind the second with their point, and nothing where there are none.
     fn digits(&self) -> Option<String> {
-        let places = match self.exponent {
-            exponent if exponent < 0 => exponent.unsigned_abs(),
+        let places = match self.precision {
+            Precision::Fraction if self.exponent < 0 => self.exponent.unsigned_abs(),
             _ => return Some(String::new()),
         };
         if places > MOST_PLACES {

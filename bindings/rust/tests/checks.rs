@@ -9,7 +9,8 @@ fn refusal(number: u64, position: usize) -> Refusal {
 #[test]
 fn counts() {
     let map = [
-        0xE0, 0x01, 0x00, 0xEA, 0xE8, 0x81, 0x84, 0xD5, 0x84, 0x00, 0x85, 0x21, 0x07, 0x3F, 0x1F, 0x00, 0x52, 0xC1, 0x63,
+        0xE0, 0x01, 0x00, 0xEA, 0xE8, 0x81, 0x84, 0xD5, 0x84, 0x00, 0x85, 0x21, 0x07, 0x3F, 0x1F, 0x00, 0x52, 0xC1,
+        0x63,
     ];
     let counts = Counts {
         markers: 1,
@@ -24,6 +25,17 @@ fn counts() {
     assert_eq!(counts.markers + counts.values(), walked(&map, u64::MAX));
 }
 
+/// Counts that no map has: their sum is the largest number, and no panic.
+#[test]
+fn counts_of_any_numbers() {
+    let counts = Counts {
+        ints: u64::MAX,
+        structs: 1,
+        ..Counts::default()
+    };
+    assert_eq!(counts.values(), u64::MAX);
+}
+
 #[test]
 fn the_first_refusal() {
     let shallow = Limits {
@@ -35,7 +47,10 @@ fn the_first_refusal() {
     assert_eq!(check(&[0x12, 0x01]), Err(refusal(33, 0)));
     assert_eq!(check(&[0xE3, 0x81, 0x04, 0x0F]), Err(refusal(3, 3)));
     assert_eq!(check(&[0x3F]).map(|counts| counts.ints), Ok(1));
-    assert_eq!(check(&[0xD2, 0x80, 0x00, 0x00]).map(|counts| (counts.pads, counts.structs)), Ok((2, 1)));
+    assert_eq!(
+        check(&[0xD2, 0x80, 0x00, 0x00]).map(|counts| (counts.pads, counts.structs)),
+        Ok((2, 1))
+    );
     let none = Limits {
         depth: 65,
         ..Limits::DEFAULT

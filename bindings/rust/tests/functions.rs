@@ -2,8 +2,8 @@
 
 use ion_map::{
     annotation, annotations, decimal, ids_begun, int, items, items_bounded, raw, scalar, step, step_bounded, step_in,
-    timestamp, var_int, var_uint, walk, walked, Body, Bounded, Item, Limits, Part, PartKind, Precision, Refusal, Scalar,
-    Timestamp, TimestampOr, Type,
+    timestamp, var_int, var_uint, walk, walked, Body, Bounded, Item, Limits, Part, PartKind, Precision, Refusal,
+    Scalar, Timestamp, TimestampOr, Type,
 };
 use std::error::Error;
 
@@ -359,6 +359,7 @@ fn a_decimal_by_its_numbers() {
     );
 }
 
+#[cfg(feature = "alloc")]
 #[test]
 fn decimals() {
     let text = |body: &[u8]| decimal(body, 0..body.len()).map(|decimal| decimal.to_string());
@@ -405,6 +406,7 @@ fn decimals_as_numbers() {
 }
 
 /// A decimal's bytes are the map's own, its positions are counted from the map's start, and the bytes around it play no part.
+#[cfg(feature = "alloc")]
 #[test]
 fn decimals_in_a_map() {
     let map = [0x11, 0x54, 0xC1, 0x83, 0x02, 0x01, 0x80];
@@ -530,6 +532,7 @@ fn timestamps() {
     assert_eq!(other(&[0x12]), Err(refusal(33, 0)));
 }
 
+#[cfg(feature = "alloc")]
 #[test]
 fn timestamps_as_text() {
     let text = |map: &[u8]| stamp(map).map(|timestamp| timestamp.to_rfc3339());
@@ -582,6 +585,131 @@ fn timestamps_as_text() {
         text(&[0x67, 0xC1, 0x81, 0x81, 0x81, 0x80, 0x80, 0x80]),
         some("0000-12-31T23:59:00-00:01")
     );
+}
+
+/// Fields of any numbers: no text where one is out of its range, and never a panic.
+#[cfg(feature = "alloc")]
+#[test]
+fn texts_of_any_fields() {
+    let good = Timestamp {
+        precision: Precision::Fraction,
+        offset: Some(-60),
+        year: 2000,
+        month: 3,
+        day: 1,
+        hour: 0,
+        minute: 0,
+        second: 0,
+        coefficient: 5,
+        exponent: -1,
+    };
+    assert_eq!(good.to_rfc3339().as_deref(), Some("2000-02-29T23:00:00.5-01:00"));
+    for precision in [Precision::Day, Precision::Second, Precision::Fraction] {
+        let good = Timestamp { precision, ..good };
+        assert!(good.to_rfc3339().is_some());
+        for other in [
+            Timestamp { day: 0, ..good },
+            Timestamp { day: 32, ..good },
+            Timestamp { day: 255, ..good },
+            Timestamp { month: 0, ..good },
+            Timestamp { month: 13, ..good },
+            Timestamp {
+                month: 2,
+                day: 30,
+                ..good
+            },
+            Timestamp {
+                year: 2001,
+                month: 2,
+                day: 29,
+                ..good
+            },
+            Timestamp { year: 0, ..good },
+            Timestamp { year: 10_000, ..good },
+            Timestamp { year: u16::MAX, ..good },
+            Timestamp { hour: 24, ..good },
+            Timestamp { minute: 60, ..good },
+            Timestamp { second: 60, ..good },
+            Timestamp {
+                offset: Some(1440),
+                ..good
+            },
+            Timestamp {
+                offset: Some(-1440),
+                ..good
+            },
+            Timestamp {
+                offset: Some(i16::MIN),
+                ..good
+            },
+            Timestamp {
+                coefficient: 10,
+                ..good
+            },
+            Timestamp {
+                coefficient: u64::MAX,
+                exponent: -19,
+                ..good
+            },
+            Timestamp { exponent: 0, ..good },
+            Timestamp {
+                exponent: i64::MAX,
+                ..good
+            },
+        ] {
+            assert_eq!(other.to_rfc3339(), None, "{other:?}");
+        }
+    }
+    let fraction = |coefficient, exponent| {
+        Timestamp {
+            coefficient,
+            exponent,
+            ..good
+        }
+        .to_rfc3339()
+    };
+    assert_eq!(
+        fraction(u64::MAX, -20).as_deref(),
+        Some("2000-02-29T23:00:00.18446744073709551615-01:00")
+    );
+    assert_eq!(fraction(9, -2).as_deref(), Some("2000-02-29T23:00:00.09-01:00"));
+    assert_eq!(fraction(0, 7).as_deref(), Some("2000-02-29T23:00:00-01:00"));
+    assert_eq!(fraction(1, i64::MIN), None);
+
+    let second = Timestamp {
+        precision: Precision::Second,
+        ..good
+    };
+    assert_eq!(second.to_rfc3339().as_deref(), Some("2000-02-29T23:00:00-01:00"));
+
+    // All edges beside each other: the text says what the fields do, or there is none.
+    let edges = [0, 1, 2, 3, 12, 13, 23, 24, 28, 29, 30, 31, 32, 59, 60, 255];
+    let mut texts = 0;
+    for year in [0, 1, 4, 1900, 2000, 9999, 10_000] {
+        for month in edges {
+            for day in edges {
+                for hour in [0, 23, 24, 255] {
+                    for offset in [i16::MIN, -1440, -1439, -1, 0, 1439, 1440, i16::MAX] {
+                        let stamp = Timestamp {
+                            offset: Some(offset),
+                            year,
+                            month,
+                            day,
+                            hour,
+                            ..good
+                        };
+                        let day = Timestamp {
+                            precision: Precision::Day,
+                            ..stamp
+                        };
+                        assert_eq!(stamp.to_rfc3339().is_some(), day.to_rfc3339().is_some());
+                        texts += usize::from(stamp.to_rfc3339().is_some_and(|text| text.is_ascii()));
+                    }
+                }
+            }
+        }
+    }
+    assert!(texts > 1000, "{texts}");
 }
 
 #[test]

@@ -392,7 +392,7 @@ fn overwriting_a_descriptor_shows() {
         };
         let map = patched(&TERRAIN, &[longer], |byte| !byte);
         assert_ne!(
-            answers_outside_all(&TERRAIN, &reached, &[site.clone()]),
+            answers_outside_all(&TERRAIN, &reached, std::slice::from_ref(&site)),
             answers_outside_all(&map, &reached, &[site])
         );
     }

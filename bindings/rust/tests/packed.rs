@@ -1,5 +1,7 @@
 //! Packed maps: their sizes at each boundary, what stays, and that packing twice changes nothing.
 
+#![cfg(feature = "alloc")]
+
 use ion_map::{check, pack, pack_into, packed_size, walk, Counts, Limits, Refusal};
 
 fn var_uint(mut n: usize, bytes: usize) -> Vec<u8> {

@@ -6,6 +6,8 @@
 //!
 //! `PACKING_MAPS` says how many maps are made (2,000 where it is not set).
 
+#![cfg(feature = "alloc")]
+
 use ion_map::{check, pack, pack_into, packed_size, walk, Counts, Item, Refusal};
 
 /// Numbers that look random: the same for one seed on every machine.
@@ -178,8 +180,11 @@ fn field_id(bytes: &[u8]) -> Vec<u8> {
     bytes[..=last].to_vec()
 }
 
-/// What a walk meets, offsets and lengths apart: depth, type, field ID, annotations, and of what is no container its body.
-fn met(map: &[u8]) -> Vec<(usize, u8, bool, Vec<u8>, Vec<u8>, Vec<u8>)> {
+/// What a walk meets, offsets and lengths apart: depth, type, whether it is null, field ID, annotations, and of what is no
+/// container its body.
+type Met = (usize, u8, bool, Vec<u8>, Vec<u8>, Vec<u8>);
+
+fn met(map: &[u8]) -> Vec<Met> {
     walk(map)
         .map(|visit| {
             let (depth, item) = visit.expect("the map is accepted");
